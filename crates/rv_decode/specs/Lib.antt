@@ -1,0 +1,6 @@
+pub mod Fields
+pub mod Kinds
+pub mod Rows
+pub mod Decoded
+pub mod Ranges
+pub mod Classes
