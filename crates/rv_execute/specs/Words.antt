@@ -1,7 +1,7 @@
 -- The arithmetic of 32-bit words: whole numbers below 2^32, read unsigned or as two's complement
 -- (RISC-V Unprivileged ISA, "RV32I Base Integer Instruction Set").
-use Rattle.std.specs.Prelude.{ℕ, ◌+◌, ◌-◌, ◌*◌, ◌/◌, ◌%◌, ◌^◌, Bool, true, false, ℤ, if◌then◌else◌, nat_lt, int_lt}
-use Rattle.std.specs.Int.{Width, w32, cast_signed, cast_unsigned, int_shr}
+use Rattle.std.specs.Prelude.{ℕ, ◌+◌, ◌-◌, ◌%◌, Bool, true, false, ℤ, int_lt}
+use Rattle.std.specs.Int.{w32, cast_signed, cast_unsigned, int_shr}
 
 -- a whole number modulo 2^32
 abbrev pub wrapped : ℕ → ℕ
