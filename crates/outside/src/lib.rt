@@ -1,0 +1,13 @@
+//! Files and sinks: all that a run reads from outside and writes to it.
+//!
+//! Each object of the outside counts its faults, so that a refused reading or a refused write has a
+//! cause that its caller can name.
+#![tactic(auto)]
+
+mod files;
+mod memory;
+mod sink;
+
+pub use files::{FileFault, Files};
+pub use memory::{MemSink, SureSink};
+pub use sink::{Sink, SinkFault, write_whole};
