@@ -5,9 +5,11 @@
 #![tactic(auto)]
 
 mod files;
+mod host;
 mod memory;
 mod sink;
 
 pub use files::{FileFault, Files};
-pub use memory::{MemSink, SureSink};
+pub use host::{HostFiles, HostSink};
+pub use memory::{MemFiles, MemSink, SureFiles, SureSink};
 pub use sink::{Sink, SinkFault, write_whole};
