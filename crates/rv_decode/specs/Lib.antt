@@ -4,3 +4,4 @@ pub mod Rows
 pub mod Decoded
 pub mod Ranges
 pub mod Classes
+pub mod Agreement

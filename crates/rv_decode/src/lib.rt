@@ -2,5 +2,6 @@
 #![tactic(auto)]
 
 mod insn;
+pub mod laws;
 
 pub use insn::{AmoKind, BranchKind, Class, ImmKind, Insn, LoadKind, RegKind, StoreKind};
