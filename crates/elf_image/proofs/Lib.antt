@@ -1,1 +1,3 @@
+pub mod HeaderLemmas
 mod Rows
+pub mod SegmentLemmas

@@ -62,9 +62,12 @@ segment_of header = record {
   file_size = header.file_size;
 }
 
--- the segments that the file loads, in file order
+-- the segments that headers load, and those of a file, in file order
+abbrev pub segments_of : List ProgramHeader → List Segment
+segments_of headers = map segment_of (filter takes_memory headers)
+
 unfoldable pub segments : List ℕ → List Segment
-segments bytes = map segment_of (filter takes_memory (program_headers bytes))
+segments bytes = segments_of (program_headers bytes)
 
 -- PF_X and PF_W
 abbrev pub may_execute : Segment → Bool

@@ -2,7 +2,7 @@
 use Rattle.std.specs.Prelude.{◌≡◌, ℕ, ◌+◌, ◌*◌, ◌%◌, List, [], ◌∷◌, ◌++◌, length, slice_index, Option, Some, None, Bool, true, false, not, ◌&&◌, ◌||◌, ◌==◌, nat_eq, nat_lt, if◌then◌else◌}
 use Rattle.std.specs.List.{list_any, starts_with}
 use Rattle.elf_image.specs.Elf.{number_at, has_bits, entry_address, table_offset, header_flags, table_entry_size, table_entries, program_headers, is_load, takes_memory, segments}
-use Rattle.elf_image.specs.Layout.{Layout, page_of, all_pages, count_below, is_mapped, is_executable_page, heap_end}
+use Rattle.elf_image.specs.Layout.{Layout, page_of, all_pages, count_below, is_mapped, is_executable_page, end_of_heap}
 use Rattle.elf_image.specs.declared.headers.ProgramHeader.{ProgramHeader}
 use Rattle.elf_image.specs.declared.segments.Segment.{Segment}
 use Rattle.elf_image.specs.declared.fault.ImageFault.{ImageFault}
@@ -29,7 +29,7 @@ fault_number Entry = 16
 fault_number NoMemory = 0
 fault_number Later = 0
 
--- The tests of the ELF header.
+-- The tests of the bytes that identify an ELF file.
 abbrev pub is_short : List ℕ → Bool
 is_short bytes = nat_lt (length bytes) 52
 
@@ -46,7 +46,7 @@ is_other_byte_order bytes = not (slice_index bytes 5 == 1)
 abbrev pub is_other_version : List ℕ → Bool
 is_other_version bytes = not (slice_index bytes 6 == 1) || not (number_at bytes 20 4 == 1)
 
--- ET_EXEC is 2
+-- The tests of the rest of the ELF header. ET_EXEC is 2.
 abbrev pub is_no_executable : List ℕ → Bool
 is_no_executable bytes = not (number_at bytes 16 2 == 2)
 
@@ -111,26 +111,32 @@ first_fault (test ∷ rest) = if test.applies then Some test.fault else first_fa
 abbrev pub test : Bool → ImageFault → Test
 test applies fault = record { applies = applies; fault = fault }
 
-abbrev pub header_tests : List ℕ → List Test
-header_tests bytes =
+-- the tests of the bytes that identify an ELF file, and those of the rest of the header
+abbrev pub identification_tests : List ℕ → List Test
+identification_tests bytes =
     test (is_short bytes) Short
     ∷ test (has_no_magic bytes) Magic
     ∷ test (is_other_class bytes) Class
     ∷ test (is_other_byte_order bytes) ByteOrder
     ∷ test (is_other_version bytes) Version
-    ∷ test (is_no_executable bytes) Kind
+    ∷ []
+
+abbrev pub header_tests : List ℕ → List Test
+header_tests bytes =
+    test (is_no_executable bytes) Kind
     ∷ test (is_other_machine bytes) Machine
     ∷ test (has_unsupported_flags bytes) Flags
     ∷ test (has_bad_table bytes) HeaderSize
     ∷ []
 
-abbrev pub segment_tests : Layout → List Test
-segment_tests layout =
-    test (list_any is_dynamic (program_headers layout.bytes)) Dynamic
-    ∷ test (length (segments layout.bytes) == 0) NoLoad
-    ∷ test (list_any (has_bad_file_range (length layout.bytes)) (program_headers layout.bytes)) FileRange
-    ∷ test (list_any passes_limit (segments layout.bytes) || nat_lt address_limit (heap_end layout)) AddressRange
-    ∷ test (overlaps (segments layout.bytes)) Overlap
+-- the tests of the program headers of a file of some size, of the segments that they load and of the heap above them
+abbrev pub segment_tests : ℕ → List ProgramHeader → List Segment → ℕ → List Test
+segment_tests size headers loaded heap =
+    test (list_any is_dynamic headers) Dynamic
+    ∷ test (length loaded == 0) NoLoad
+    ∷ test (list_any (has_bad_file_range size) headers) FileRange
+    ∷ test (list_any passes_limit loaded || nat_lt address_limit (end_of_heap loaded heap)) AddressRange
+    ∷ test (overlaps loaded) Overlap
     ∷ []
 
 abbrev pub map_tests : Layout → List Test
@@ -140,4 +146,8 @@ map_tests layout = test (is_too_large layout) TooLarge ∷ test (has_bad_entry l
 unfoldable pub image_fault : List ℕ → ℕ → ℕ → ℕ → Option ImageFault
 image_fault bytes cores stack heap =
     let layout : Layout = record { bytes = bytes; cores = cores; stack = stack; heap = heap } in
-    first_fault (header_tests bytes ++ segment_tests layout ++ map_tests layout)
+    first_fault
+    (identification_tests bytes
+    ++ header_tests bytes
+    ++ segment_tests (length bytes) (program_headers bytes) (segments bytes) heap
+    ++ map_tests layout)

@@ -30,8 +30,12 @@ break_page loaded = (highest_end loaded + 4095) / 4096
 abbrev pub break_base : Layout → ℕ
 break_base layout = 4096 * break_page (segments layout.bytes)
 
+-- the address above a heap of some pages
+abbrev pub end_of_heap : List Segment → ℕ → ℕ
+end_of_heap loaded heap = 4096 * break_page loaded + 4096 * heap
+
 abbrev pub heap_end : Layout → ℕ
-heap_end layout = break_base layout + 4096 * layout.heap
+heap_end layout = end_of_heap (segments layout.bytes) layout.heap
 
 -- the address above the stack of a core
 abbrev pub stack_top : ℕ → ℕ

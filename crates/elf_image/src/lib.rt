@@ -6,6 +6,7 @@ mod fault;
 mod headers;
 mod memory_image;
 mod segments;
+mod validation;
 
 pub use crate::fault::ImageFault;
 pub use crate::memory_image::Image;
