@@ -4,3 +4,5 @@ pub mod Logs
 pub mod Marked
 pub mod LegalMerge
 pub mod CanonicalMerge
+pub mod Room
+pub mod Places

@@ -2,6 +2,8 @@
 #![tactic(auto)]
 
 mod entry;
+mod merge;
 
 pub use bounded_list::{BoundedList, NoMemory};
 pub use entry::{Access, Bytes, CoreLog, Entry, Order, Pieces};
+pub use merge::MergeRoom;
