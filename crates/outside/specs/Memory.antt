@@ -1,5 +1,5 @@
 -- What files and sinks in memory show, and which of their calls fail.
-use Rattle.std.specs.Prelude.{◌≡◌, ℕ, ◌+◌, ◌-◌, ◌^◌, min, List, length, find, Contains, ◌⊎◌, Option, None, Some, IsNone, unwrap_or, []}
+use Rattle.std.specs.Prelude.{◌≡◌, ℕ, ◌+◌, ◌-◌, ◌^◌, min, List, length, find, Contains, ◌⊎◌, Option, None, Some, IsNone}
 use Rattle.std.specs.Str.{bytes_eq}
 
 -- one more, for a u64 that stays at its greatest value

@@ -157,3 +157,6 @@ fn write_and_flush<W: Write>(writer: &mut W, bytes: &[u8]) -> Result<usize, Sink
     writer.flush().map_err(|_| SinkFault::Failed)?;
     Ok(count)
 }
+
+#[cfg(test)]
+mod tests;

@@ -349,3 +349,6 @@ impl Sink for SureSink {
         Ok(bytes.len())
     }
 }
+
+#[cfg(test)]
+mod tests;
