@@ -1,6 +1,7 @@
 //! The opcodes, and the funct3, funct7 and funct5 of each operation.
 
-ghost use Rattle.std.specs.Prelude.{◌≡◌};
+ghost use Rattle.std.specs.Prelude.{◌≡◌, ◌<◌};
+ghost use Rattle.rv_decode.specs.Kinds.{branch_funct3, load_funct3, store_funct3, imm_funct3, reg_funct3, reg_funct7, amo_funct5};
 ghost use Rattle.rv_decode.specs.Decoded.{branch_kind, load_kind, store_kind, left_kind, right_kind, imm_kind, base_kind, alternate_kind, multiply_kind, reg_kind, amo_kind};
 
 use crate::insn::{AmoKind, BranchKind, ImmKind, LoadKind, RegKind, StoreKind};
@@ -63,6 +64,20 @@ pub(crate) fn branch_kind(funct3: u32) -> Option<BranchKind>
     }
 }
 
+pub(crate) fn branch_funct3(kind: BranchKind) -> u32
+    ensures value { result ≡ branch_funct3 kind }
+    ensures small { result < 8 }
+{
+    match kind {
+        BranchKind::Beq => 0b000,
+        BranchKind::Bne => 0b001,
+        BranchKind::Blt => 0b100,
+        BranchKind::Bge => 0b101,
+        BranchKind::Bltu => 0b110,
+        BranchKind::Bgeu => 0b111,
+    }
+}
+
 pub(crate) fn load_kind(funct3: u32) -> Option<LoadKind>
     ensures { result ≡ load_kind funct3 }
 {
@@ -76,6 +91,19 @@ pub(crate) fn load_kind(funct3: u32) -> Option<LoadKind>
     }
 }
 
+pub(crate) fn load_funct3(kind: LoadKind) -> u32
+    ensures value { result ≡ load_funct3 kind }
+    ensures small { result < 8 }
+{
+    match kind {
+        LoadKind::Lb => 0b000,
+        LoadKind::Lh => 0b001,
+        LoadKind::Lw => 0b010,
+        LoadKind::Lbu => 0b100,
+        LoadKind::Lhu => 0b101,
+    }
+}
+
 pub(crate) fn store_kind(funct3: u32) -> Option<StoreKind>
     ensures { result ≡ store_kind funct3 }
 {
@@ -84,6 +112,17 @@ pub(crate) fn store_kind(funct3: u32) -> Option<StoreKind>
         0b001 => Some(StoreKind::Sh),
         0b010 => Some(StoreKind::Sw),
         _ => None,
+    }
+}
+
+pub(crate) fn store_funct3(kind: StoreKind) -> u32
+    ensures value { result ≡ store_funct3 kind }
+    ensures small { result < 8 }
+{
+    match kind {
+        StoreKind::Sb => 0b000,
+        StoreKind::Sh => 0b001,
+        StoreKind::Sw => 0b010,
     }
 }
 
@@ -122,6 +161,22 @@ pub(crate) fn imm_kind(funct3: u32, funct7: u32) -> Option<ImmKind>
         0b110 => Some(ImmKind::Ori),
         0b111 => Some(ImmKind::Andi),
         _ => None,
+    }
+}
+
+pub(crate) fn imm_funct3(kind: ImmKind) -> u32
+    ensures value { result ≡ imm_funct3 kind }
+    ensures small { result < 8 }
+{
+    match kind {
+        ImmKind::Addi => 0b000,
+        ImmKind::Slli => 0b001,
+        ImmKind::Slti => 0b010,
+        ImmKind::Sltiu => 0b011,
+        ImmKind::Xori => 0b100,
+        ImmKind::Srli | ImmKind::Srai => 0b101,
+        ImmKind::Ori => 0b110,
+        ImmKind::Andi => 0b111,
     }
 }
 
@@ -179,6 +234,47 @@ pub(crate) fn reg_kind(funct3: u32, funct7: u32) -> Option<RegKind>
     }
 }
 
+pub(crate) fn reg_funct3(kind: RegKind) -> u32
+    ensures value { result ≡ reg_funct3 kind }
+    ensures small { result < 8 }
+{
+    match kind {
+        RegKind::Add | RegKind::Sub | RegKind::Mul => 0b000,
+        RegKind::Sll | RegKind::Mulh => 0b001,
+        RegKind::Slt | RegKind::Mulhsu => 0b010,
+        RegKind::Sltu | RegKind::Mulhu => 0b011,
+        RegKind::Xor | RegKind::Div => 0b100,
+        RegKind::Srl | RegKind::Sra | RegKind::Divu => 0b101,
+        RegKind::Or | RegKind::Rem => 0b110,
+        RegKind::And | RegKind::Remu => 0b111,
+    }
+}
+
+pub(crate) fn reg_funct7(kind: RegKind) -> u32
+    ensures value { result ≡ reg_funct7 kind }
+    ensures small { result < 128 }
+{
+    match kind {
+        RegKind::Add
+        | RegKind::Sll
+        | RegKind::Slt
+        | RegKind::Sltu
+        | RegKind::Xor
+        | RegKind::Srl
+        | RegKind::Or
+        | RegKind::And => BASE,
+        RegKind::Sub | RegKind::Sra => ALTERNATE,
+        RegKind::Mul
+        | RegKind::Mulh
+        | RegKind::Mulhsu
+        | RegKind::Mulhu
+        | RegKind::Div
+        | RegKind::Divu
+        | RegKind::Rem
+        | RegKind::Remu => MULTIPLY,
+    }
+}
+
 pub(crate) fn amo_kind(funct5: u32) -> Option<AmoKind>
     ensures { result ≡ amo_kind funct5 }
 {
@@ -193,5 +289,22 @@ pub(crate) fn amo_kind(funct5: u32) -> Option<AmoKind>
         0b11000 => Some(AmoKind::Minu),
         0b11100 => Some(AmoKind::Maxu),
         _ => None,
+    }
+}
+
+pub(crate) fn amo_funct5(kind: AmoKind) -> u32
+    ensures value { result ≡ amo_funct5 kind }
+    ensures small { result < 32 }
+{
+    match kind {
+        AmoKind::Add => 0b00000,
+        AmoKind::Swap => 0b00001,
+        AmoKind::Xor => 0b00100,
+        AmoKind::Or => 0b01000,
+        AmoKind::And => 0b01100,
+        AmoKind::Min => 0b10000,
+        AmoKind::Max => 0b10100,
+        AmoKind::Minu => 0b11000,
+        AmoKind::Maxu => 0b11100,
     }
 }

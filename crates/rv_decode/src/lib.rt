@@ -2,6 +2,7 @@
 #![tactic(auto)]
 
 mod decoding;
+mod encoding;
 mod fields;
 mod insn;
 mod kinds;
@@ -9,5 +10,6 @@ pub mod laws;
 mod ranges;
 
 pub use decoding::decode;
+pub use encoding::encode;
 pub use insn::{AmoKind, BranchKind, Class, ImmKind, Insn, LoadKind, RegKind, StoreKind};
 pub use ranges::fits;
