@@ -13,3 +13,6 @@ pub use decoding::decode;
 pub use encoding::encode;
 pub use insn::{AmoKind, BranchKind, Class, ImmKind, Insn, LoadKind, RegKind, StoreKind};
 pub use ranges::fits;
+
+#[cfg(test)]
+mod tests;
