@@ -5,6 +5,7 @@
 mod fault;
 mod headers;
 mod memory_image;
+mod page_table;
 mod segments;
 mod validation;
 
