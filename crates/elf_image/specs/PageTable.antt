@@ -1,5 +1,5 @@
 -- What the table of pages holds: for each mapped page how many mapped pages lie below it, and its permissions.
-use Rattle.std.specs.Prelude.{◌≡◌, ℕ, ◌<◌, List, length, slice_index_or, Option, Some, None, Bool, ◌&&◌, ◌||◌, if◌then◌else◌}
+use Rattle.std.specs.Prelude.{◌≡◌, ℕ, ◌<◌, List, length, slice_index, slice_index_or, ◌+◌, ◌*◌, ◌/◌, ◌%◌, Option, Some, None, Bool, ◌&&◌, ◌||◌, if◌then◌else◌}
 use Rattle.elf_image.specs.Elf.{may_write}
 use Rattle.elf_image.specs.Layout.{touches, maps, writes, executes, count_below, all_pages}
 use Rattle.elf_image.specs.declared.segments.Segment.{Segment}
@@ -30,3 +30,9 @@ pub record IsTableBelow (set : ℕ → Bool) (entry : ℕ → ℕ → Option Pag
 abbrev pub IsTableOf : List Segment → ℕ → ℕ → ℕ → List (Option Page) → ℕ → Type 0
 IsTableOf loaded cores stack heap pages mapped =
     IsTableBelow (maps loaded cores stack heap) (page_entry loaded cores stack heap) pages mapped all_pages
+
+-- a list has so many new items at its end, as `item` gives them
+pub record IsExtended (old new : List ℕ) (item : ℕ → ℕ) (count : ℕ) : Type 0 where
+  pub size : length new ≡ length old + count
+  pub kept : (k : ℕ) → k < length old → slice_index new k ≡ slice_index old k
+  pub added : (k : ℕ) → k < count → slice_index new (length old + k) ≡ item k
