@@ -2,9 +2,11 @@
 //! its mapped pages, their permissions, the numbers of their words and the words' first values.
 #![tactic(auto)]
 
+mod contents;
 mod fault;
 mod headers;
 mod memory_image;
+mod page_table;
 mod segments;
 mod validation;
 
