@@ -1,2 +1,7 @@
 mod Rows
+pub mod SetAtLemmas
+pub mod Total
+pub mod CanonicalLemmas
 pub mod Merging
+pub mod Giving
+pub mod MarkedLemmas

@@ -2,8 +2,8 @@
 #![tactic(auto)]
 
 mod entry;
-mod merge;
+mod merge_room;
 
 pub use bounded_list::{BoundedList, NoMemory};
 pub use entry::{Access, Bytes, CoreLog, Entry, Order, Pieces};
-pub use merge::MergeRoom;
+pub use merge_room::{MergeRoom, merge};
