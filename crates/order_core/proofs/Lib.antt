@@ -5,3 +5,4 @@ pub mod CanonicalLemmas
 pub mod Merging
 pub mod Giving
 pub mod MarkedLemmas
+pub mod LegalLemmas
