@@ -1,5 +1,5 @@
 -- Legal merges of what is left of logs: a ready core's next entry may always come first.
-use Rattle.std.proofs.Common.{◌≡◌, ◌≢◌, ◌⊎◌, ℕ, suc, ◌+◌, ◌<◌, ◌≤◌, List, [], ◌∷◌, ◌++◌, drop, cond, Bool, true, false, eqb, Option, Some, None, refl, sym, ap, subst, ◌∙◌, inl, inr, arith, eqb→eq, add-one}
+use Rattle.std.proofs.Common.{◌≡◌, ◌≢◌, ◌⊎◌, ℕ, suc, ◌+◌, ◌<◌, ◌≤◌, List, [], ◌∷◌, ◌++◌, drop, cond, Bool, true, false, eqb, Option, Some, None, refl, sym, ap, subst, ◌∙◌, inl, inr, arith, eqb-true, eq-eqb, add-one}
 use Rattle.std.proofs.lemmas.Bool.Decides.{eqb_tells}
 use Rattle.order_core.specs.declared.entry.Access.{Access}
 use Rattle.order_core.specs.declared.entry.Entry.{Entry}
@@ -84,3 +84,99 @@ count_up-without core entry entries access (m ∷ marked) e t h = step (eqb_tell
                 let S : List ℕ → Type 0 = λ front. CountUpFrom (suc access.number) (front ++ numbers_of access.word (without core marked)) in
                 subst S (sym (number_at-apart access.word touched elsewhere.1))
                 (rest (sym (part_of-other core m marked apart.1) ∙ e) t (count_up-rest access.word access.number touched (numbers_of access.word marked) elsewhere.1 h))
+
+module _ (left : ℕ → List Entry) (reached : ℕ → ℕ) (core : ℕ) (entry : Entry) (entries : List Entry) (next : left core ≡ entry ∷ entries) where
+  left-same : left_after left core core ≡ entries
+  left-same = set_at-same left core (drop 1 (left core)) ∙ ap (λ (log : List Entry). drop 1 log) next
+
+  left-other : (other : ℕ) → other ≢ core → left_after left core other ≡ left other
+  left-other other h = set_at-other left core other (drop 1 (left core)) h
+
+  -- the entry of a ready core may come first
+  pub legal_without : (marked : List Marked) → may_touch reached entry.touch ≡ true → IsLegalFrom left reached marked → IsLegalFrom (left_after left core) (raised reached entry.touch) (without core marked)
+  legal_without marked ready legal = record {
+    parts = λ other. parts other (eqb_tells other core);
+    numbers = numbers entry.touch refl ready;
+  }
+    where
+      parts : (other : ℕ) → ((eqb other core ≡ true) × (other ≡ core)) ⊎ ((eqb other core ≡ false) × (other ≢ core)) → part_of other (without core marked) ≡ left_after left core other
+      parts other (inl same) =
+          ap (λ (c : ℕ). part_of c (without core marked)) same.1 ∙ part_of-without_same core marked ∙ ap (λ (log : List Entry). drop 1 log) (legal.parts core) ∙ sym (set_at-same left core (drop 1 (left core))) ∙ ap (left_after left core) (sym same.1)
+      parts other (inr apart) = part_of-without_other core other marked apart.1 ∙ legal.parts other ∙ sym (left-other other apart.1)
+
+      first : part_of core marked ≡ entry ∷ entries
+      first = legal.parts core ∙ next
+
+      kept : (word : ℕ) → number_at word entry.touch ≡ [] → CountUpFrom (reached word) (numbers_of word (without core marked))
+      kept word none =
+          let P : List ℕ → Type 0 = λ numbers. CountUpFrom (reached word) numbers in
+          subst P (sym (numbers_of-without word core entry entries marked first none)) (legal.numbers word)
+
+      numbers : (touch : Option Access) → entry.touch ≡ touch → may_touch reached touch ≡ true → (word : ℕ) → CountUpFrom (raised reached touch word) (numbers_of word (without core marked))
+      numbers None t ok word = kept word (ap (number_at word) t)
+      numbers (Some access) t ok word = at (eqb_tells word access.word)
+        where
+          number : access.number ≡ reached access.word
+          number = eqb-true access.number (reached access.word) ok
+
+          at : ((eqb word access.word ≡ true) × (word ≡ access.word)) ⊎ ((eqb word access.word ≡ false) × (word ≢ access.word)) → CountUpFrom (raised reached (Some access) word) (numbers_of word (without core marked))
+          at (inl same) =
+              let P : ℕ → Type 0 = λ from. CountUpFrom from (numbers_of access.word marked) in
+              let later = count_up-without core entry entries access marked first t (subst P (sym number) (legal.numbers access.word)) in
+              let from : suc access.number ≡ raised reached (Some access) access.word = ap suc number ∙ sym (add-one (reached access.word)) ∙ sym (set_at-same reached access.word (reached access.word + 1)) in
+              let Q : ℕ → Type 0 = λ from. CountUpFrom from (numbers_of access.word (without core marked)) in
+              let R : ℕ → Type 0 = λ w. CountUpFrom (raised reached (Some access) w) (numbers_of w (without core marked)) in
+              subst R (sym same.1) (subst Q from later)
+          at (inr apart) =
+              let Q : ℕ → Type 0 = λ from. CountUpFrom from (numbers_of word (without core marked)) in
+              subst Q (sym (set_at-other reached access.word word (reached access.word + 1) apart.1))
+              (kept word (ap (number_at word) t ∙ number_at-apart word access (λ e. apart.1 (sym e))))
+
+  -- the entry of a ready core put first
+  pub legal_with : (marked : List Marked) → may_touch reached entry.touch ≡ true → IsLegalFrom (left_after left core) (raised reached entry.touch) marked → IsLegalFrom left reached ((core, entry) ∷ marked)
+  legal_with marked ready legal = record {
+    parts = λ other. parts other (eqb_tells other core);
+    numbers = numbers entry.touch refl ready;
+  }
+    where
+      parts : (other : ℕ) → ((eqb other core ≡ true) × (other ≡ core)) ⊎ ((eqb other core ≡ false) × (other ≢ core)) → part_of other ((core, entry) ∷ marked) ≡ left other
+      parts other (inl same) =
+          ap (λ (c : ℕ). part_of c ((core, entry) ∷ marked)) same.1 ∙ part_of-same core (core, entry) marked refl ∙ ap (λ (part : List Entry). entry ∷ part) (legal.parts core ∙ left-same) ∙ sym next ∙ ap left (sym same.1)
+      parts other (inr apart) = part_of-other other (core, entry) marked (λ e. apart.1 (sym e)) ∙ legal.parts other ∙ left-other other apart.1
+
+      numbers : (touch : Option Access) → entry.touch ≡ touch → may_touch reached touch ≡ true → (word : ℕ) → CountUpFrom (reached word) (number_at word entry.touch ++ numbers_of word marked)
+      numbers None t ok word =
+          let P : Option Access → Type 0 = λ touch. CountUpFrom (raised reached touch word) (numbers_of word marked) in
+          let Q : Option Access → Type 0 = λ touch. CountUpFrom (reached word) (number_at word touch ++ numbers_of word marked) in
+          subst Q (sym t) (subst P t (legal.numbers word))
+      numbers (Some access) t ok word =
+          let P : Option Access → Type 0 = λ touch. CountUpFrom (raised reached touch word) (numbers_of word marked) in
+          let Q : Option Access → Type 0 = λ touch. CountUpFrom (reached word) (number_at word touch ++ numbers_of word marked) in
+          subst Q (sym t) (at (eqb_tells word access.word) (subst P t (legal.numbers word)))
+        where
+          number : access.number ≡ reached access.word
+          number = eqb-true access.number (reached access.word) ok
+
+          at : ((eqb word access.word ≡ true) × (word ≡ access.word)) ⊎ ((eqb word access.word ≡ false) × (word ≢ access.word)) → CountUpFrom (raised reached (Some access) word) (numbers_of word marked)
+              → CountUpFrom (reached word) (number_at word (Some access) ++ numbers_of word marked)
+          at (inl same) later =
+              let from : raised reached (Some access) word ≡ suc (reached word) = ap (raised reached (Some access)) same.1 ∙ set_at-same reached access.word (reached access.word + 1) ∙ add-one (reached access.word) ∙ ap (λ (w : ℕ). suc (reached w)) (sym same.1) in
+              let P : ℕ → Type 0 = λ from. CountUpFrom from (numbers_of word marked) in
+              let Q : List ℕ → Type 0 = λ front. CountUpFrom (reached word) (front ++ numbers_of word marked) in
+              subst Q (sym (number_at-some word access (sym same.1))) (number ∙ ap reached (sym same.1), subst P from later)
+          at (inr apart) later =
+              let P : ℕ → Type 0 = λ from. CountUpFrom from (numbers_of word marked) in
+              let Q : List ℕ → Type 0 = λ front. CountUpFrom (reached word) (front ++ numbers_of word marked) in
+              subst Q (sym (number_at-apart word access (λ e. apart.1 (sym e)))) (subst P (set_at-other reached access.word word (reached access.word + 1) apart.1) later)
+
+-- the first entry of a legal merge is of a ready core
+pub legal_first : (left : ℕ → List Entry) (reached : ℕ → ℕ) (m : Marked) (marked : List Marked) → IsLegalFrom left reached (m ∷ marked) → is_ready reached (left m.0) ≡ true
+legal_first left reached m marked legal =
+    ap (is_ready reached) (sym (legal.parts m.0) ∙ part_of-same m.0 m marked refl) ∙ ready (m.1).touch refl
+  where
+    ready : (touch : Option Access) → (m.1).touch ≡ touch → may_touch reached touch ≡ true
+    ready None t = refl
+    ready (Some access) t =
+        let P : Option Access → Type 0 = λ touch. CountUpFrom (reached access.word) (number_at access.word touch ++ numbers_of access.word marked) in
+        let found = count_up-first access.word (reached access.word) access (numbers_of access.word marked) refl (subst P t (legal.numbers access.word)) in
+        eq-eqb access.number (reached access.word) found.0

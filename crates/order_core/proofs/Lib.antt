@@ -6,3 +6,5 @@ pub mod Merging
 pub mod Giving
 pub mod MarkedLemmas
 pub mod LegalLemmas
+pub mod CanonicalLaws
+pub mod HistoryLaws

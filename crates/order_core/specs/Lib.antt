@@ -4,5 +4,6 @@ pub mod Logs
 pub mod Marked
 pub mod LegalMerge
 pub mod CanonicalMerge
+pub mod History
 pub mod Room
 pub mod Places
