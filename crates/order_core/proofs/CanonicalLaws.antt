@@ -5,7 +5,7 @@ use Rattle.std.proofs.lemmas.List.{get_or_past}
 use Rattle.order_core.specs.declared.entry.Entry.{Entry}
 use Rattle.order_core.specs.Logs.{log_of, entry_count}
 use Rattle.order_core.specs.Marked.{Marked, cores_of, part_of}
-use Rattle.order_core.specs.LegalMerge.{IsLegalMerge, IsLegalOrder}
+use Rattle.order_core.specs.LegalMerge.{IsLegalMerge, HasLegalMerge, IsLegalOrder}
 use Rattle.order_core.specs.CanonicalMerge.{is_ready, least_ready, IsLeastReady, left_after, reached_after, canonical_from, canonical, IsCanonicalFrom, IsCanonicalMerge}
 use Rattle.order_core.proofs.SetAtLemmas.{set_at-same, set_at-other}
 use Rattle.order_core.proofs.Total.{total, entry_count-total, total-left_after, left-total_zero, total-nothing}
@@ -129,9 +129,9 @@ canonical-good logs marked legal =
     canonical_from-good (length logs) (entry_count logs) (log_of logs) (λ word. 0) marked (λ core h. get_or_past logs core [] h) (legal_from logs marked legal) (sym (entry_count-total logs))
 
 -- the laws
-pub canonical-legal : (logs : List (List Entry)) (marked : List Marked) → IsLegalMerge logs marked → IsLegalOrder logs (canonical logs)
-canonical-legal logs marked legal =
-    let good = canonical-good logs marked legal in
+pub canonical_legal : (logs : List (List Entry)) → HasLegalMerge logs → IsLegalOrder logs (canonical logs)
+canonical_legal logs legal =
+    let good = canonical-good logs legal.0 legal.1 in
     record {
       marked = good.marked;
       cores = good.cores;
@@ -141,9 +141,9 @@ canonical-legal logs marked legal =
       };
     }
 
-pub canonical-least : (logs : List (List Entry)) (marked : List Marked) → IsLegalMerge logs marked → IsCanonicalMerge logs (canonical logs)
-canonical-least logs marked legal = (canonical-good logs marked legal).canonical
+pub canonical_least : (logs : List (List Entry)) → HasLegalMerge logs → IsCanonicalMerge logs (canonical logs)
+canonical_least logs legal = (canonical-good logs legal.0 legal.1).canonical
 
-pub canonical-only : (logs : List (List Entry)) (marked : List Marked) (order : List ℕ) → IsLegalMerge logs marked → IsCanonicalMerge logs order → order ≡ canonical logs
-canonical-only logs marked order legal h =
-    canonical_from-only (log_of logs) (λ word. 0) order (canonical logs) h (canonical-least logs marked legal)
+pub canonical_only : (logs : List (List Entry)) → HasLegalMerge logs → (order : List ℕ) → IsCanonicalMerge logs order → order ≡ canonical logs
+canonical_only logs legal order h =
+    canonical_from-only (log_of logs) (λ word. 0) order (canonical logs) h (canonical_least logs legal)

@@ -176,8 +176,8 @@ numbers_in-history_of word (m ∷ marked) = step (m.1).touch (numbers_in-history
     step None e = e
     step (Some access) e = ap (λ (numbers : List ℕ). number_at word (Some access) ++ numbers) e
 
-pub history-merges : (logs : List (List Entry)) (history : List CoreAccess) → FitsLogs logs history → ExtendsToMerge logs history
-history-merges logs history fits =
+pub history_merges : (logs : List (List Entry)) (history : List CoreAccess) → FitsLogs logs history → ExtendsToMerge logs history
+history_merges logs history fits =
     let e = extends (length logs) (log_of logs) history (λ core h. get_or_past logs core [] h) fits.parts in
     let P : ℕ → List ℕ → Type 0 = λ word numbers. CountUpFrom 0 numbers in
     record {

@@ -65,3 +65,14 @@ drop-entry (x ∷ xs) (suc place) entry h e = drop-entry xs place entry (omega a
 -- it touches what the log's entries touch
 pub touches-entry : (words : ℕ) (log : List Entry) (place : ℕ) (entry : Entry) → All (TouchesBelow words) log → place < length log → entry ≡ get_or log place entry → TouchesBelow words entry
 touches-entry words log place entry w h e = let P : Entry → Type 0 = TouchesBelow words in subst P (sym e) (w place entry h)
+
+-- the accesses of all lists, and those of the logs that they hold
+pub all_touch_below-from_lists : (words : ℕ) (lists : List (Bounded Entry)) → All (λ list. All (TouchesBelow words) list.items) lists → AllTouchBelow words (logs_of lists)
+all_touch_below-from_lists words [] h k d lt = absurd (omega arith)
+all_touch_below-from_lists words (x ∷ xs) h zero d lt = h zero x (omega arith)
+all_touch_below-from_lists words (x ∷ xs) h (suc k) d lt = all_touch_below-from_lists words xs (λ j e m. h (suc j) e (omega arith)) k d (omega arith)
+
+pub all_touch_below-to_lists : (words : ℕ) (lists : List (Bounded Entry)) → AllTouchBelow words (logs_of lists) → All (λ list. All (TouchesBelow words) list.items) lists
+all_touch_below-to_lists words [] h k d lt = absurd (omega arith)
+all_touch_below-to_lists words (x ∷ xs) h zero d lt = h zero [] (omega arith)
+all_touch_below-to_lists words (x ∷ xs) h (suc k) d lt = all_touch_below-to_lists words xs (λ j e m. h (suc j) e (omega arith)) k d (omega arith)

@@ -5,5 +5,6 @@ pub mod Marked
 pub mod LegalMerge
 pub mod CanonicalMerge
 pub mod History
+pub mod MergeLaws
 pub mod Room
 pub mod Places

@@ -1,7 +1,6 @@
-ghost use Rattle.std.specs.Prelude.{◌≡◌, ℕ, ◌+◌, ◌^◌, ◌<◌, ◌≤◌, List, [], ◌∷◌, length, drop, replicate, slice_index, vec_len, All, IfOk, IfSome};
+ghost use Rattle.std.specs.Prelude.{◌≡◌, ℕ, ◌+◌, ◌^◌, ◌<◌, ◌≤◌, List, [], ◌∷◌, length, drop, replicate, slice_index, vec_len, All, IfOk, IfSome, IsTrue, ◌↔◌};
 ghost use Rattle.order_core.specs.Logs.{logs_of, log_of, entry_count, TouchesBelow, AllTouchBelow};
-ghost use Rattle.order_core.specs.Marked.{Marked};
-ghost use Rattle.order_core.specs.LegalMerge.{IsLegalMerge, IsLegalOrder};
+ghost use Rattle.order_core.specs.LegalMerge.{HasLegalMerge, IsLegalOrder};
 ghost use Rattle.order_core.specs.CanonicalMerge.{is_ready, least_ready, left_after, raised, reached_after, canonical, IsCanonicalMerge};
 ghost use Rattle.order_core.specs.Places.{left_at, reached_at};
 ghost use Rattle.order_core.specs.Room.{Room};
@@ -162,6 +161,29 @@ fn fill_order(logs: &[CoreLog], places: &mut Vec<u32>, counts: &mut Vec<u32>, or
     }
 }
 
+/// Whether each access of the log is to a word below `words`.
+fn log_touches_below(log: &CoreLog, words: u32) -> bool
+    ensures { IsTrue result ↔ All (TouchesBelow words) log.now.items }
+{
+    log.as_slice().iter().all(|entry| match entry.touch {
+        None => true,
+        Some(access) => access.word < words,
+    })
+}
+
+fn each_touches_below(logs: &[CoreLog], words: u32) -> bool
+    ensures { IsTrue result ↔ All (λ log. All (TouchesBelow words) log.items) logs.now }
+{
+    logs.iter().all(|log| log_touches_below(log, words))
+}
+
+/// Whether each access of the logs is to a word below `words`, as a merge asks.
+pub fn all_touch_below(logs: &[CoreLog], words: u32) -> bool
+    ensures { IsTrue result ↔ AllTouchBelow words (logs_of logs.now) }
+{
+    each_touches_below(logs, words)
+}
+
 /// Puts the canonical merge of the logs into the room, in place of what it held.
 ///
 /// At each place stands the least core whose next entry has no access, or has the number that its word has reached;
@@ -172,9 +194,55 @@ pub fn merge(logs: &[CoreLog], room: &mut MergeRoom)
     requires units { entry_count (logs_of logs.now) ≤ room.old.order.room }
     ensures order { room.new
         ≡ record room.old { order = record room.old.order { items = canonical (logs_of logs.now) } } }
+    ensures legal { HasLegalMerge (logs_of logs.now) → IsLegalOrder (logs_of logs.now) room.new.order.items }
+    ensures least { HasLegalMerge (logs_of logs.now) → IsCanonicalMerge (logs_of logs.now) room.new.order.items }
 {
     set_to_zero(&mut room.places);
     set_to_zero(&mut room.counts);
     room.order.clear();
     fill_order(logs, &mut room.places, &mut room.counts, &mut room.order);
+}
+
+#[cfg(test)]
+mod tests {
+    use super::*;
+    use std::test::Fail;
+
+    const QUIET: Entry = Entry { touch: None };
+
+    fn touch(word: u32, number: u32) -> Entry {
+        Entry {
+            touch: Some(Access {
+                word,
+                number,
+                found: 0,
+            }),
+        }
+    }
+
+    #[test]
+    fn merges_by_numbers(rt: HostRuntime) -> Result<(), Fail> {
+        let alloc = rt.alloc();
+        let mut first = CoreLog::create(alloc, 2)?;
+        first.push(QUIET);
+        first.push(touch(5, 1));
+        let mut second = CoreLog::create(alloc, 1)?;
+        second.push(touch(5, 0));
+        let logs = vec![in alloc; first, second]?;
+        let mut room = MergeRoom::create(alloc, 6, 3)?;
+        assert!(rt; all_touch_below(&logs, 6));
+        merge(&logs, &mut room);
+        assert_eq!(rt; room.order().as_slice(), [0, 1, 0].as_slice());
+        Ok(())
+    }
+
+    #[test]
+    fn merges_an_empty_log(rt: HostRuntime) -> Result<(), Fail> {
+        let alloc = rt.alloc();
+        let logs = vec![in alloc; CoreLog::create(alloc, 0)?]?;
+        let mut room = MergeRoom::create(alloc, 0, 0)?;
+        merge(&logs, &mut room);
+        assert_eq!(rt; room.order().len(), 0);
+        Ok(())
+    }
 }
