@@ -1,0 +1,6 @@
+pub mod Counting
+pub mod HeaderLemmas
+mod Rows
+pub mod SegmentLemmas
+pub mod StackPages
+pub mod TableLemmas

@@ -1,0 +1,23 @@
+-- Lemmas on lists of segments.
+use Rattle.std.proofs.Common.{◌≡◌, ℕ, ◌<◌, ◌≤◌, List, [], ◌∷◌, max, Bool, true, false, nat_lt, fold, arith, refl, ◌||◌}
+use Rattle.std.proofs.lemmas.Grind.{common_steps}
+use Rattle.std.specs.List.{list_any}
+use Rattle.elf_image.specs.Layout.{highest_end}
+use Rattle.elf_image.specs.ImageFault.{passes_limit, address_limit}
+use Rattle.elf_image.specs.declared.segments.Segment.{Segment}
+
+-- a disjunction that fails fails on both sides
+pub or_false : (a b : Bool) → (a || b) ≡ false → (a ≡ false) × (b ≡ false)
+or_false true b h = cc
+or_false false b h = (refl, h)
+
+pub fold_max-le : (low : ℕ) (loaded : List Segment) → low ≤ address_limit → list_any passes_limit loaded ≡ false → fold (λ high segment. max high segment.end) low loaded ≤ address_limit
+fold_max-le low [] h none = h
+fold_max-le low (segment ∷ rest) h none =
+    let parts = or_false (passes_limit segment) (list_any passes_limit rest) none in
+    let below : segment.end ≤ address_limit = grind (arith, parts.0) in
+    fold_max-le (max low segment.end) rest (omega arith) parts.1
+
+-- where no segment passes the limit, the highest end does not
+pub highest_end-le : (loaded : List Segment) → list_any passes_limit loaded ≡ false → highest_end loaded ≤ address_limit
+highest_end-le loaded none = fold_max-le 0 loaded (omega arith) none

@@ -1,0 +1,4 @@
+pub mod Elf
+pub mod ImageFault
+pub mod Layout
+pub mod PageTable

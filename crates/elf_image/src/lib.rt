@@ -1,0 +1,14 @@
+//! Reads a statically linked 32-bit RISC-V ELF file into the memory map of the emulated machine:
+//! its mapped pages, their permissions, the numbers of their words and the words' first values.
+#![tactic(auto)]
+
+mod contents;
+mod fault;
+mod headers;
+mod memory_image;
+mod page_table;
+mod segments;
+mod validation;
+
+pub use crate::fault::ImageFault;
+pub use crate::memory_image::Image;

@@ -1,0 +1,5 @@
+pub mod Setups
+pub mod States
+pub mod Steps
+pub mod Runs
+pub mod Outcomes

@@ -1,0 +1,2 @@
+//! The whole machine as definitions: its setups, its states, and its step.
+#![tactic(auto)]

@@ -1,0 +1,12 @@
+//! What one instruction of RV32IMA asks of memory and does to its hart.
+#![tactic(auto)]
+
+mod ask;
+mod fault;
+mod hart;
+mod op;
+
+pub use ask::Ask;
+pub use fault::Fault;
+pub use hart::Hart;
+pub use op::{NO_NUMBER, Op, Taken};

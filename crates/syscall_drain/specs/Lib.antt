@@ -1,0 +1,5 @@
+pub mod Programs
+pub mod Buffers
+pub mod Calls
+pub mod Tasks
+pub mod Local

@@ -1,0 +1,7 @@
+-- What a guest is to a contract: the memory map of its image, and its input.
+use Rattle.std.specs.Prelude.{ℕ, List}
+use Rattle.elf_image.specs.Layout.{Layout}
+
+pub record Program : Type 0 where
+  pub layout : Layout
+  pub input : List ℕ

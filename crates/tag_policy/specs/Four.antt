@@ -1,0 +1,14 @@
+-- A tag of four bits as the four bits of its policies (this project's own).
+use Rattle.std.specs.Prelude.{ℕ, ◌+◌, ◌*◌, ◌/◌, ◌%◌, ◌^◌, Bool, true, false, ◌==◌}
+
+abbrev pub bit_value : Bool → ℕ
+bit_value true = 1
+bit_value false = 0
+
+-- the tag whose bit i is f i
+abbrev pub four : (ℕ → Bool) → ℕ
+four f = bit_value (f 0) + 2 * bit_value (f 1) + 4 * bit_value (f 2) + 8 * bit_value (f 3)
+
+-- bit i of a tag
+abbrev pub bit_of : ℕ → ℕ → Bool
+bit_of tag i = tag / 2 ^ i % 2 == 1

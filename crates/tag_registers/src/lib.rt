@@ -1,0 +1,2 @@
+//! The tags of one core, as its records make them.
+#![tactic(auto)]
