@@ -1,7 +1,7 @@
 //! The results of the integer instructions.
 
 ghost use Rattle.std.specs.Prelude.{◌≡◌, ℕ, ◌*◌, ◌/◌, ◌<◌};
-ghost use Rattle.rv_execute.specs.Words.{upper_half};
+ghost use Rattle.rv_execute.specs.Words.{signed, upper_half};
 ghost use Rattle.rv_execute.specs.Results.{result_of, register_form, is_taken, quotient, remainder, unsigned_quotient, unsigned_remainder};
 
 use rv_decode::{BranchKind, ImmKind, RegKind};
@@ -69,16 +69,23 @@ fn high_word(product: i64) -> u32
     ((product >> 32) as i32).cast_unsigned()
 }
 
+/// The signed reading of a word.
+fn widen(word: u32) -> i64
+    ensures { result ≡ signed word }
+{
+    i64::from(word.cast_signed())
+}
+
 fn multiply_signed(a: u32, b: u32) -> u32
     ensures { result ≡ result_of RegKind.Mulh a b }
 {
-    high_word(i64::from(a.cast_signed()) * i64::from(b.cast_signed()))
+    high_word(widen(a) * widen(b))
 }
 
 fn multiply_mixed(a: u32, b: u32) -> u32
     ensures { result ≡ result_of RegKind.Mulhsu a b }
 {
-    high_word(i64::from(a.cast_signed()) * i64::from(b))
+    high_word(widen(a) * i64::from(b))
 }
 
 fn multiply_unsigned(a: u32, b: u32) -> u32
@@ -93,7 +100,9 @@ fn divide(a: u32, b: u32) -> u32
     if b == 0 {
         u32::MAX
     } else {
-        a.cast_signed().wrapping_div(b.cast_signed()).cast_unsigned()
+        a.cast_signed()
+            .wrapping_div(b.cast_signed())
+            .cast_unsigned()
     }
 }
 
@@ -109,7 +118,9 @@ fn remain(a: u32, b: u32) -> u32
     if b == 0 {
         a
     } else {
-        a.cast_signed().wrapping_rem(b.cast_signed()).cast_unsigned()
+        a.cast_signed()
+            .wrapping_rem(b.cast_signed())
+            .cast_unsigned()
     }
 }
 

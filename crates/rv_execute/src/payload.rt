@@ -14,13 +14,18 @@ pub fn apply(op: Op, number: u32, payload: u32) -> u32
         Op::Read => payload,
         Op::Write { mask, value } => (payload & !mask) | (value & mask),
         Op::Amo { kind, value } => combine(kind, payload, value),
-        Op::Sc { number: asked, value } => {
-            if number == asked { value } else { payload }
-        }
+        Op::Sc {
+            number: asked,
+            value,
+        } => { if number == asked { value } else { payload } }
         Op::TakeInput { want, total } => payload + want.min(total.saturating_sub(payload)),
         Op::Place { len } => payload.wrapping_add(len),
         Op::Break { want, low, high } => {
-            if low <= want && want <= high { want } else { payload }
+            if low <= want && want <= high {
+                want
+            } else {
+                payload
+            }
         }
     }
 }
@@ -36,10 +41,18 @@ fn combine(kind: AmoKind, old: u32, value: u32) -> u32
         AmoKind::Or => old | value,
         AmoKind::And => old & value,
         AmoKind::Min => {
-            if value.cast_signed() < old.cast_signed() { value } else { old }
+            if value.cast_signed() < old.cast_signed() {
+                value
+            } else {
+                old
+            }
         }
         AmoKind::Max => {
-            if old.cast_signed() < value.cast_signed() { value } else { old }
+            if old.cast_signed() < value.cast_signed() {
+                value
+            } else {
+                old
+            }
         }
         AmoKind::Minu => old.min(value),
         AmoKind::Maxu => old.max(value),
