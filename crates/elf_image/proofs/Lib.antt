@@ -1,4 +1,5 @@
 pub mod Counting
+pub mod FaultLemmas
 pub mod HeaderLemmas
 mod Rows
 pub mod SegmentLemmas

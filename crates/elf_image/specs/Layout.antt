@@ -12,6 +12,9 @@ pub record Layout : Type 0 where
   pub stack : ℕ
   pub heap : ℕ
 
+abbrev pub layout_of : List ℕ → ℕ → ℕ → ℕ → Layout
+layout_of bytes cores stack heap = record { bytes = bytes; cores = cores; stack = stack; heap = heap }
+
 -- a page is 4,096 bytes, and memory has 2^20 pages
 abbrev pub page_of : ℕ → ℕ
 page_of address = address / 4096

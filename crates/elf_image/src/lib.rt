@@ -5,6 +5,7 @@
 mod contents;
 mod fault;
 mod headers;
+mod loading;
 mod memory_image;
 mod page_table;
 mod segments;
