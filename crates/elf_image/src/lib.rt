@@ -12,4 +12,4 @@ mod segments;
 mod validation;
 
 pub use crate::fault::ImageFault;
-pub use crate::memory_image::Image;
+pub use crate::memory_image::{Image, load};

@@ -77,7 +77,7 @@ fn any_writable(segments: &[Segment], page: u32) -> bool
 }
 
 /// Whether some segment that may be executed has a byte on a page.
-fn any_executable(segments: &[Segment], page: u32) -> bool
+pub fn any_executable(segments: &[Segment], page: u32) -> bool
     ensures { result ≡ executes segments.now page }
 {
     segments

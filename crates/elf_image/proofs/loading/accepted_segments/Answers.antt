@@ -3,6 +3,7 @@ use Rattle.std.proofs.Common.{◌≡◌, None, Some, refl, sym, ◌∙◌, ap}
 use Rattle.std.proofs.lemmas.Result.{err_from_is_err_and}
 use Rattle.elf_image.specs.Elf.{program_headers, segments, segments_of}
 use Rattle.elf_image.proofs.FaultLemmas.{file-at_identification, file-at_header, file-at_segments, header-table}
+use Rattle.elf_image.proofs.LoadLemmas.{segments-few}
 use Rattle.elf_image.proofs.loading.accepted_segments.Goals as goal
 
 pub returns-in_err-check_identification-clause-refused : goal.returns-in_err-check_identification-clause-refused
@@ -41,3 +42,10 @@ returns-clause-accepted c =
     let loaded : c.in_ok-segments.segments.items ≡ segments c.args.bytes.now =
     c.in_ok-segments.ensures ∙ ap segments_of (c.deref.ensures.value ∙ c.in_ok-headers.ensures) in
     file-at_segments c.args.bytes.now c.args.heap None c.deref-2.result.now c.deref-3.result.now c.in_ok-check_identification.ensures c.in_ok-check_header.ensures (c.deref-2.ensures.value ∙ c.in_ok-headers.ensures) (c.deref-3.ensures.value ∙ loaded) c.in_ok-check_segments.ensures
+
+pub returns-clause-few : goal.returns-clause-few
+unfolding segments
+returns-clause-few c =
+    let loaded : c.in_ok-segments.segments.items ≡ segments c.args.bytes.now =
+    c.in_ok-segments.ensures ∙ ap segments_of (c.deref.ensures.value ∙ c.in_ok-headers.ensures) in
+    rw loaded (segments-few c.args.bytes.now (sym c.in_ok-check_header.ensures))
