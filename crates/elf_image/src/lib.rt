@@ -9,6 +9,8 @@ mod loading;
 mod memory_image;
 mod page_table;
 mod segments;
+#[cfg(test)]
+mod tests;
 mod validation;
 
 pub use crate::fault::ImageFault;
