@@ -1,7 +1,7 @@
 //! A list whose memory is taken once, when it is created: a push within its room cannot fail.
 #![tactic(auto)]
 
-ghost use Rattle.std.specs.Prelude.{◌≡◌, ◌+◌, ◌^◌, ◌<◌, ◌≤◌, [], ◌∷◌, ◌++◌, length, slice_get, IfOk, vec_capacity};
+ghost use Rattle.std.specs.Prelude.{◌≡◌, ◌+◌, ◌^◌, ◌<◌, ◌≤◌, [], ◌∷◌, ◌++◌, length, drop, slice_get, IfOk, vec_capacity};
 ghost use Rattle.bounded_list.specs.Bounded.{Bounded, IsWithinRoom};
 
 use std::alloc::Global;
@@ -54,6 +54,15 @@ impl<T> BoundedList<T> {
         self.items.clear();
     }
 
+    /// Takes the first item out.
+    pub fn remove_first(&mut self) -> T
+        requires { 0 < length self.old.items }
+        ensures item { slice_get self.old.items 0 ≡ Some result }
+        ensures rest { self.new ≡ record self.old { items = drop 1 self.old.items } }
+    {
+        self.items.remove(0)
+    }
+
     /// How many items the list holds.
     pub fn len(&self) -> usize
         ensures count { result ≡ length self.now.items }
@@ -104,6 +113,8 @@ mod tests {
         for (place, want) in [(0, Some(7)), (1, Some(5)), (2, None)] {
             assert_eq!(rt; list.get(place), want, "at {place}");
         }
+        assert_eq!(rt; list.remove_first(), 7);
+        assert_eq!(rt; list.as_slice(), [5].as_slice());
         list.clear();
         assert_eq!(rt; list.len(), 0);
         Ok(())

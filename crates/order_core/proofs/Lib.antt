@@ -8,3 +8,5 @@ pub mod MarkedLemmas
 pub mod LegalLemmas
 pub mod CanonicalLaws
 pub mod HistoryLaws
+pub mod Queue
+pub mod Steps

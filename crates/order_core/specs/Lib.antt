@@ -8,3 +8,6 @@ pub mod History
 pub mod MergeLaws
 pub mod Room
 pub mod Places
+pub mod WordBelow
+pub mod Protocol
+pub mod Reachable

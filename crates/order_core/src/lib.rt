@@ -4,7 +4,10 @@
 mod entry;
 pub mod laws;
 mod merge_room;
+mod numbers;
+mod shape;
 
 pub use bounded_list::{BoundedList, NoMemory};
 pub use entry::{Access, Bytes, CoreLog, Entry, Order, Pieces};
 pub use merge_room::{MergeRoom, all_touch_below, merge};
+pub use shape::{Move, Shape};

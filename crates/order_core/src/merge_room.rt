@@ -6,6 +6,7 @@ ghost use Rattle.order_core.specs.Places.{left_at, reached_at};
 ghost use Rattle.order_core.specs.Room.{Room};
 
 use crate::entry::{Access, CoreLog, Entry, Order};
+use crate::numbers::{set_to_zero, zeros};
 use bounded_list::NoMemory;
 use std::alloc::Global;
 use std::marker::Model;
@@ -50,18 +51,6 @@ impl MergeRoom {
     {
         &self.order
     }
-}
-
-fn zeros(alloc: Global, count: usize) -> Result<Vec<u32>, NoMemory>
-    ensures { IfOk result (λ numbers. vec_len numbers ≡ count) }
-{
-    vec![in alloc; 0; count].map_err(|_| NoMemory)
-}
-
-fn set_to_zero(numbers: &mut Vec<u32>)
-    ensures { numbers.new.items ≡ replicate (vec_len numbers.old) 0 }
-{
-    numbers.fill(0);
 }
 
 /// Whether the core with this log, of which `place` entries were given, may come next.
