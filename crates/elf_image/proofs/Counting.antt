@@ -47,6 +47,20 @@ count_below-le set (suc n) =
     let h = count_below-le set n in
     elim (set n) as (λ b. count_below set n + (if b then 1 else 0) ≤ suc n) [ true ↦ omega arith | false ↦ omega arith ]
 
+-- where no number from a on is in the set, the count stays
+pub count_below-gap_by : (set : ℕ → Bool) (a k : ℕ) → ((n : ℕ) → a ≤ n → n < a + k → set n ≡ false) → count_below set (a + k) ≡ count_below set a
+count_below-gap_by set a zero none = rw add-zero refl
+count_below-gap_by set a (suc k) none =
+    let same : (a + k) + 1 ≡ a + suc k = omega arith in
+    let last : set (a + k) ≡ false = none (a + k) (omega arith) (omega arith) in
+    rw (← same) (count_below-out set (a + k) last ∙ count_below-gap_by set a k (λ n low high. none n low (omega arith)))
+
+pub count_below-gap : (set : ℕ → Bool) (a b : ℕ) → a ≤ b → ((n : ℕ) → a ≤ n → n < b → set n ≡ false) → count_below set b ≡ count_below set a
+count_below-gap set a b low none =
+    let same : a + (b - a) ≡ b = omega arith in
+    let P : ℕ → Type 0 = λ v. count_below set v ≡ count_below set a in
+    subst P same (count_below-gap_by set a (b - a) (λ n from to. none n from (omega arith)))
+
 -- nothing is counted below 0
 pub count_from-zero : (set : ℕ → Bool) (n : ℕ) → count_below set 0 + n ≡ n
 unfolding count_below

@@ -3,6 +3,8 @@ pub mod FaultLemmas
 pub mod HeaderLemmas
 pub mod LoadLemmas
 pub mod MemoryLemmas
+pub mod NextLemmas
+pub mod PlaceLemmas
 mod Rows
 pub mod SegmentLemmas
 pub mod StackPages

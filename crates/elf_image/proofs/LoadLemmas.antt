@@ -8,14 +8,14 @@ use Rattle.std.proofs.lemmas.List.Sums.{length-filter, count_by-le-length}
 use Rattle.elf_image.specs.Elf.{entry_address, header_at, program_headers, segment_of, segments, segments_of, table_entries, table_offset, takes_memory}
 use Rattle.elf_image.specs.ImageFault.{first_fault, file_tests, header_tests, map_tests, image_fault, has_bad_table, has_bad_entry, is_too_large, passes_limit, address_limit}
 use Rattle.elf_image.specs.Layout.{Layout, layout_of, all_pages, count_below, nth_from, address_of, break_page, end_of_heap, entry_of, executes, is_executable_page, is_mapped, is_writable_page, loaded_word, maps, page_of, word_at}
-use Rattle.elf_image.specs.Memory.{IsMemoryOf, IsReadFrom, page_of_layout}
+use Rattle.elf_image.specs.Memory.{IsMemoryOf, IsReadFrom, permissions_of_layout}
 use Rattle.elf_image.specs.PageTable.{IsContents, IsTableBelow, IsTableOf}
 use Rattle.elf_image.proofs.Counting.{count_from-zero, nth_from-count}
 use Rattle.elf_image.proofs.FaultLemmas.{first_fault-some, first_fault-skip, header-table}
 use Rattle.elf_image.specs.declared.fault.ImageFault.{ImageFault}
 use Rattle.elf_image.specs.declared.fault.ImageFault.TheVariants.{TooLarge, Entry}
 use Rattle.elf_image.specs.declared.segments.Segment.{Segment}
-use Rattle.elf_image.specs.declared.page_table.Page.{Page}
+use Rattle.elf_image.specs.declared.page_table.Permissions.{Permissions}
 
 -- a fault of the file by itself is that of the image
 pub image-file : (bytes : List ℕ) (cores stack heap : ℕ) (fault : ImageFault) → first_fault (file_tests bytes heap) ≡ Some fault → image_fault bytes cores stack heap ≡ Some fault
@@ -69,40 +69,39 @@ segments-few bytes none =
     rw (length-map (filter takes_memory (program_headers bytes)) segment_of, length-filter takes_memory (program_headers bytes)) (omega (arith, all, some, few))
 
 -- each mapped page of a table is a page
-pub mapped-low : (set : ℕ → Bool) (entry : ℕ → ℕ → Option Page) (pages : List (Option Page)) (mapped xs : List ℕ) → IsTableBelow set entry pages mapped 1048576 → xs ≡ mapped → (k d : ℕ) → k < length xs → get_or xs k d < 1048576
-mapped-low set entry pages mapped xs table same k d low =
+pub mapped-low : (set : ℕ → Bool) (allowed : ℕ → Permissions) (mapped : List ℕ) (permissions : List Permissions) (xs : List ℕ) → IsTableBelow set allowed mapped permissions 1048576 → xs ≡ mapped → (k d : ℕ) → k < length xs → get_or xs k d < 1048576
+mapped-low set allowed mapped permissions xs table same k d low =
     let size : length xs ≡ length mapped = ap length same in
     let inside : k < length mapped = omega arith in
     let member = table.members k inside in
     rw (same, get_or_default mapped k d 0 inside) member.below
 
 -- the k-th mapped page is the one with k mapped pages below it
-mapped-place : (set : ℕ → Bool) (entry : ℕ → ℕ → Option Page) (pages : List (Option Page)) (mapped : List ℕ) → IsTableBelow set entry pages mapped 1048576 → (k : ℕ) → k < length mapped → nth_from set 1048576 0 k ≡ get_or mapped k 0
-mapped-place set entry pages mapped table k low =
+mapped-place : (set : ℕ → Bool) (allowed : ℕ → Permissions) (mapped : List ℕ) (permissions : List Permissions) → IsTableBelow set allowed mapped permissions 1048576 → (k : ℕ) → k < length mapped → nth_from set 1048576 0 k ≡ get_or mapped k 0
+mapped-place set allowed mapped permissions table k low =
     let member = table.members k low in
     let below : get_or mapped k 0 < 1048576 = member.below in
     nth_from-count set 1048576 0 k (get_or mapped k 0) (omega arith) (omega arith) member.in_set (count_from-zero set k ∙ sym member.at_place)
 
 -- the table and the words of the segments are those of the layout
-memory-at : (bytes : List ℕ) (cores stack heap : ℕ) (pages : List (Option Page)) (mapped words : List ℕ) → IsTableOf (segments bytes) cores stack heap pages mapped → length mapped ≤ 4096 → IsContents (loaded_word bytes (segments bytes)) mapped words (length mapped) → IsMemoryOf (layout_of bytes cores stack heap) pages words
-unfolding is_mapped is_writable_page is_executable_page page_of_layout word_at address_of
-memory-at bytes cores stack heap pages mapped words table small contents = record {
+memory-at : (bytes : List ℕ) (cores stack heap : ℕ) (mapped : List ℕ) (permissions : List Permissions) (words : List ℕ) → IsTableOf (segments bytes) cores stack heap mapped permissions → length mapped ≤ 4096 → IsContents (loaded_word bytes (segments bytes)) mapped words (length mapped) → IsMemoryOf (layout_of bytes cores stack heap) mapped permissions words
+unfolding is_mapped is_writable_page is_executable_page permissions_of_layout word_at address_of
+memory-at bytes cores stack heap mapped permissions words table small contents = record {
   few = subst (λ n. n ≤ 4096) table.counted small;
-  table_size = table.size;
-  entries = table.entries;
+  table = table;
   words_size = contents.size ∙ ap (λ n. 1024 * n) table.counted;
   items = λ k d low.
       let size : length words ≡ 1024 * length mapped = contents.size in
       let inside : k / 1024 < length mapped = omega arith in
       get_or_default words k d 0 low
       ∙ contents.items k low
-      ∙ ap (λ n. loaded_word bytes (segments bytes) (4096 * n + 4 * (k % 1024))) (sym (mapped-place _ _ pages mapped table (k / 1024) inside));
+      ∙ ap (λ n. loaded_word bytes (segments bytes) (4096 * n + 4 * (k % 1024))) (sym (mapped-place _ _ mapped permissions table (k / 1024) inside));
 }
 
-pub memory-from : (bytes : List ℕ) (cores stack heap : ℕ) (loaded : List Segment) (pages : List (Option Page)) (mapped words : List ℕ) → loaded ≡ segments bytes → IsTableOf loaded cores stack heap pages mapped → length mapped ≤ 4096 → IsContents (loaded_word bytes loaded) mapped words (length mapped) → IsMemoryOf (layout_of bytes cores stack heap) pages words
-memory-from bytes cores stack heap loaded pages mapped words same table small contents =
-    memory-at bytes cores stack heap pages mapped words
-    (subst (λ (ls : List Segment). IsTableOf ls cores stack heap pages mapped) same table)
+pub memory-from : (bytes : List ℕ) (cores stack heap : ℕ) (loaded : List Segment) (mapped : List ℕ) (permissions : List Permissions) (words : List ℕ) → loaded ≡ segments bytes → IsTableOf loaded cores stack heap mapped permissions → length mapped ≤ 4096 → IsContents (loaded_word bytes loaded) mapped words (length mapped) → IsMemoryOf (layout_of bytes cores stack heap) mapped permissions words
+memory-from bytes cores stack heap loaded mapped permissions words same table small contents =
+    memory-at bytes cores stack heap mapped permissions words
+    (subst (λ (ls : List Segment). IsTableOf ls cores stack heap mapped permissions) same table)
     small
     (subst (λ (ls : List Segment). IsContents (loaded_word bytes ls) mapped words (length mapped)) same contents)
 
@@ -119,8 +118,8 @@ read-from bytes cores stack heap first entry loaded same few ends at low from = 
 }
 
 -- a table that lists few mapped pages counts few
-pub table-few : (set : ℕ → Bool) (entry : ℕ → ℕ → Option Page) (pages : List (Option Page)) (mapped : List ℕ) {size : ℕ} → IsTableBelow set entry pages mapped 1048576 → length mapped ≡ size → size ≤ 4096 → count_below set 1048576 ≤ 4096
-table-few set entry pages mapped table same small = rw (← table.counted, same) small
+pub table-few : (set : ℕ → Bool) (allowed : ℕ → Permissions) (mapped : List ℕ) (permissions : List Permissions) {size : ℕ} → IsTableBelow set allowed mapped permissions 1048576 → length mapped ≡ size → size ≤ 4096 → count_below set 1048576 ≤ 4096
+table-few set allowed mapped permissions table same small = rw (← table.counted, same) small
 
 -- the test of the entry, and what the words are, at equal lists
 pub at_segments : (entry : ℕ) (one other : List Segment) → one ≡ other → (if not (nat_eq (entry % 4) 0) || not (executes one (entry / 4096)) then Some Entry else None) ≡ (if not (nat_eq (entry % 4) 0) || not (executes other (entry / 4096)) then Some Entry else None)

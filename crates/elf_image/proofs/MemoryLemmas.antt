@@ -4,10 +4,11 @@ use Rattle.std.specs.List.{list_any}
 use Rattle.std.proofs.lemmas.Bool.{cases_Bool, or_cases, or_left, or_right, and_parts, both_ways, eq-eqb, ne_eqb}
 use Rattle.elf_image.specs.Elf.{segments, may_write, may_execute}
 use Rattle.elf_image.specs.Layout.{Layout, touches, is_data_page, break_page, is_mapped, is_writable_page, is_executable_page, is_writable, count_below, nth_from, all_pages, page_of, words_of, word_of, word_at, address_of, segment_at, first_word, fetched, break_base}
-use Rattle.elf_image.specs.Memory.{page_of_layout, IsMemoryOf}
+use Rattle.elf_image.specs.Memory.{page_of_layout, permissions_of_layout, IsMemoryOf}
 use Rattle.elf_image.proofs.Counting.{count_below-le, count_below-lt, count_from-zero, nth_from-count}
 use Rattle.elf_image.specs.declared.segments.Segment.{Segment}
-use Rattle.elf_image.specs.declared.page_table.Page.{Page}
+use Rattle.elf_image.specs.declared.memory_image.Page.{Page}
+use Rattle.elf_image.specs.declared.page_table.Permissions.{Permissions}
 
 -- a test that asks for less passes too
 any-less : (more less : Segment → Bool) (loaded : List Segment) → ((s : Segment) → (less s && more s) ≡ true → less s ≡ true) → list_any (λ s. less s && more s) loaded ≡ true → list_any less loaded ≡ true
@@ -47,22 +48,21 @@ none_from false one same = refl
 pub record IsEntry (layout : Layout) (page : ℕ) (entry : Page) : Type 0 where
   pub mapped : is_mapped layout page ≡ true
   pub place : entry.place ≡ count_below (is_mapped layout) page
-  pub writable : entry.writable ≡ is_writable_page layout page
-  pub executable : entry.executable ≡ is_executable_page layout page
+  pub writable : entry.permissions.writable ≡ is_writable_page layout page
+  pub executable : entry.permissions.executable ≡ is_executable_page layout page
 
 pub at_entry : (layout : Layout) (page : ℕ) (entry : Page) → Some entry ≡ page_of_layout layout page → IsEntry layout page entry
-unfolding page_of_layout
+unfolding page_of_layout permissions_of_layout
 at_entry layout page entry found =
     let parts = some_from (is_mapped layout page) (record {
       place = count_below (is_mapped layout) page;
-      writable = is_writable_page layout page;
-      executable = is_executable_page layout page;
+      permissions = permissions_of_layout layout page;
     }) entry found in
     record {
       mapped = parts.0;
       place = ap (λ (p : Page). p.place) parts.1;
-      writable = ap (λ (p : Page). p.writable) parts.1;
-      executable = ap (λ (p : Page). p.executable) parts.1;
+      writable = ap (λ (p : Page). p.permissions.writable) parts.1;
+      executable = ap (λ (p : Page). p.permissions.executable) parts.1;
     }
 
 pub at_no_entry : (layout : Layout) (page : ℕ) → None ≡ page_of_layout layout page → is_mapped layout page ≡ false
@@ -70,8 +70,7 @@ unfolding page_of_layout
 at_no_entry layout page missing =
     none_from (is_mapped layout page) (record {
       place = count_below (is_mapped layout) page;
-      writable = is_writable_page layout page;
-      executable = is_executable_page layout page;
+      permissions = permissions_of_layout layout page;
     }) missing
 
 -- the word of an address by the entry of its page
@@ -91,7 +90,7 @@ place-le layout page entry found =
     rw says.place (count_below-le (is_mapped layout) page)
 
 -- whether an address may be written, by the entry of its page
-pub writable-entry : (layout : Layout) (address : ℕ) (entry : Page) → Some entry ≡ page_of_layout layout (address / 4096) → entry.writable ≡ is_writable layout address
+pub writable-entry : (layout : Layout) (address : ℕ) (entry : Page) → Some entry ≡ page_of_layout layout (address / 4096) → entry.permissions.writable ≡ is_writable layout address
 unfolding is_writable
 writable-entry layout address entry found = (at_entry layout (address / 4096) entry found).writable
 
@@ -134,16 +133,16 @@ address_of-mapped layout page rest mapped low small =
     rw (whole, part, found) refl
 
 -- the word that memory holds at an address of a mapped page
-pub index-lt : (layout : Layout) (pages : List (Option Page)) (words : List ℕ) (address : ℕ) (entry : Page) → IsMemoryOf layout pages words → address < 2 ^ 32 → Some entry ≡ page_of_layout layout (address / 4096) → 1024 * entry.place + address % 4096 / 4 < length words
-index-lt layout pages words address entry memory low found =
+pub index-lt : (layout : Layout) (mapped : List ℕ) (permissions : List Permissions) (words : List ℕ) (address : ℕ) (entry : Page) → IsMemoryOf layout mapped permissions words → address < 2 ^ 32 → Some entry ≡ page_of_layout layout (address / 4096) → 1024 * entry.place + address % 4096 / 4 < length words
+index-lt layout mapped permissions words address entry memory low found =
     let says = at_entry layout (address / 4096) entry found in
     let more = count_below-lt (is_mapped layout) (address / 4096) 1048576 says.mapped (omega arith) in
     rw (memory.words_size, says.place) (omega arith)
 
-pub item-at : (layout : Layout) (pages : List (Option Page)) (words : List ℕ) (address d : ℕ) (entry : Page) → IsMemoryOf layout pages words → address < 2 ^ 32 → address % 4 ≡ 0 → Some entry ≡ page_of_layout layout (address / 4096) → get_or words (1024 * entry.place + address % 4096 / 4) d ≡ word_at layout address
-item-at layout pages words address d entry memory low even found =
+pub item-at : (layout : Layout) (mapped : List ℕ) (permissions : List Permissions) (words : List ℕ) (address d : ℕ) (entry : Page) → IsMemoryOf layout mapped permissions words → address < 2 ^ 32 → address % 4 ≡ 0 → Some entry ≡ page_of_layout layout (address / 4096) → get_or words (1024 * entry.place + address % 4096 / 4) d ≡ word_at layout address
+item-at layout mapped permissions words address d entry memory low even found =
     let says = at_entry layout (address / 4096) entry found in
-    let inside = index-lt layout pages words address entry memory low found in
+    let inside = index-lt layout mapped permissions words address entry memory low found in
     let there : address_of layout (1024 * entry.place + address % 4096 / 4) ≡ 4096 * (address / 4096) + 4 * (address % 4096 / 4) =
     rw says.place (address_of-mapped layout (address / 4096) (address % 4096 / 4) says.mapped (omega arith) (omega arith)) in
     let back : 4096 * (address / 4096) + 4 * (address % 4096 / 4) ≡ address = omega arith in

@@ -5,24 +5,31 @@ use Rattle.elf_image.specs.Elf.{segments}
 use Rattle.elf_image.specs.Layout.{Layout, is_mapped, is_writable_page, is_executable_page, count_below, all_pages, word_at, address_of, break_base, heap_end, entry_of}
 use Rattle.elf_image.specs.ImageFault.{address_limit, passes_limit}
 use Rattle.elf_image.specs.declared.segments.Segment.{Segment}
-use Rattle.elf_image.specs.declared.page_table.Page.{Page}
+use Rattle.elf_image.specs.PageTable.{IsTableBelow}
+use Rattle.elf_image.specs.declared.memory_image.Page.{Page}
+use Rattle.elf_image.specs.declared.page_table.Permissions.{Permissions}
 
--- the entry of a page in the table
+-- what may be done on a page of a layout
+unfoldable pub permissions_of_layout : Layout → ℕ → Permissions
+permissions_of_layout layout page = record {
+  writable = is_writable_page layout page;
+  executable = is_executable_page layout page;
+}
+
+-- what the table of pages says of a page: how many mapped pages lie below it, and what may be done there
 unfoldable pub page_of_layout : Layout → ℕ → Option Page
 page_of_layout layout page =
     if is_mapped layout page
     then Some (record {
       place = count_below (is_mapped layout) page;
-      writable = is_writable_page layout page;
-      executable = is_executable_page layout page;
+      permissions = permissions_of_layout layout page;
     })
     else None
 
 -- the table of pages and the first words of a layout of at most 4,096 mapped pages
-pub record IsMemoryOf (layout : Layout) (pages : List (Option Page)) (words : List ℕ) : Type 0 where
+pub record IsMemoryOf (layout : Layout) (mapped : List ℕ) (permissions : List Permissions) (words : List ℕ) : Type 0 where
   pub few : count_below (is_mapped layout) all_pages ≤ 4096
-  pub table_size : length pages ≡ all_pages
-  pub entries : (page : ℕ) (d : Option Page) → page < all_pages → slice_index_or pages page d ≡ page_of_layout layout page
+  pub table : IsTableBelow (is_mapped layout) (permissions_of_layout layout) mapped permissions all_pages
   pub words_size : length words ≡ 1024 * count_below (is_mapped layout) all_pages
   pub items : (k d : ℕ) → k < length words → slice_index_or words k d ≡ word_at layout (address_of layout k)
 

@@ -1,24 +1,27 @@
--- What the table of pages holds: for each mapped page how many mapped pages lie below it, and its permissions.
-use Rattle.std.specs.Prelude.{◌≡◌, ℕ, ◌<◌, List, length, slice_index, slice_index_or, ◌+◌, ◌*◌, ◌/◌, ◌%◌, Option, Some, None, Bool, true, ◌&&◌, ◌||◌, if◌then◌else◌}
+-- What the table of pages holds: the mapped pages in ascending order, and what may be done on each.
+use Rattle.std.specs.Prelude.{◌≡◌, ℕ, ◌<◌, ◌≤◌, false, List, length, slice_index, slice_index_or, ◌+◌, ◌*◌, ◌/◌, ◌%◌, Bool, true, ◌&&◌, ◌||◌}
 use Rattle.elf_image.specs.Elf.{may_write}
 use Rattle.elf_image.specs.Layout.{touches, maps, writes, executes, count_below, all_pages}
 use Rattle.elf_image.specs.declared.segments.Segment.{Segment}
-use Rattle.elf_image.specs.declared.page_table.Page.{Page}
+use Rattle.elf_image.specs.declared.page_table.Permissions.{Permissions}
 
 -- whether a segment that may be written has a byte on a page
 abbrev pub may_write_page : ℕ → Segment → Bool
 may_write_page page segment = touches page segment && may_write segment
 
--- the entry of a page above some count of mapped pages
-abbrev pub page_entry : List Segment → ℕ → ℕ → ℕ → ℕ → ℕ → Option Page
-page_entry loaded cores stack heap page place =
-    if maps loaded cores stack heap page
-    then Some (record {
-      place = place;
-      writable = writes loaded cores stack heap page;
-      executable = executes loaded page;
-    })
-    else None
+-- what may be done on a page
+abbrev pub permissions_of : List Segment → ℕ → ℕ → ℕ → ℕ → Permissions
+permissions_of loaded cores stack heap page = record {
+  writable = writes loaded cores stack heap page;
+  executable = executes loaded page;
+}
+
+-- a number is the first one of a set from a number on, or that of all pages where no page from there on is in the set
+pub record IsNextOf (set : ℕ → Bool) (from next : ℕ) : Type 0 where
+  pub low : from ≤ next
+  pub high : next ≤ all_pages
+  pub none : (page : ℕ) → from ≤ page → page < next → set page ≡ false
+  pub here : next < all_pages → set next ≡ true
 
 -- a page below a bound is in a set, with so many of the set below it
 pub record IsMember (set : ℕ → Bool) (bound page place : ℕ) : Type 0 where
@@ -26,17 +29,17 @@ pub record IsMember (set : ℕ → Bool) (bound page place : ℕ) : Type 0 where
   pub in_set : set page ≡ true
   pub at_place : count_below set page ≡ place
 
--- the table has the right entries for the first pages, where `entry` gives that of a page above a count of mapped pages, and the mapped ones of them are listed
-pub record IsTableBelow (set : ℕ → Bool) (entry : ℕ → ℕ → Option Page) (pages : List (Option Page)) (mapped : List ℕ) (count : ℕ) : Type 0 where
-  pub size : length pages ≡ count
-  pub entries : (page : ℕ) (d : Option Page) → page < count → slice_index_or pages page d ≡ entry page (count_below set page)
-  pub counted : length mapped ≡ count_below set count
-  pub members : (k : ℕ) → k < length mapped → IsMember set count (slice_index mapped k) k
+-- the pages of a set below a bound are listed, with what may be done on each
+pub record IsTableBelow (set : ℕ → Bool) (allowed : ℕ → Permissions) (mapped : List ℕ) (permissions : List Permissions) (bound : ℕ) : Type 0 where
+  pub counted : length mapped ≡ count_below set bound
+  pub members : (k : ℕ) → k < length mapped → IsMember set bound (slice_index mapped k) k
+  pub size : length permissions ≡ length mapped
+  pub allows : (k : ℕ) (d : Permissions) → k < length mapped → slice_index_or permissions k d ≡ allowed (slice_index mapped k)
 
--- the table has the right entries for all pages
-abbrev pub IsTableOf : List Segment → ℕ → ℕ → ℕ → List (Option Page) → List ℕ → Type 0
-IsTableOf loaded cores stack heap pages mapped =
-    IsTableBelow (maps loaded cores stack heap) (page_entry loaded cores stack heap) pages mapped all_pages
+-- all mapped pages are listed
+abbrev pub IsTableOf : List Segment → ℕ → ℕ → ℕ → List ℕ → List Permissions → Type 0
+IsTableOf loaded cores stack heap mapped permissions =
+    IsTableBelow (maps loaded cores stack heap) (permissions_of loaded cores stack heap) mapped permissions all_pages
 
 -- a list has so many new items at its end, as `item` gives them
 pub record IsExtended (old new : List ℕ) (item : ℕ → ℕ) (count : ℕ) : Type 0 where

@@ -14,9 +14,6 @@ use crate::segments::{Segment, break_page, loaded_segments};
 use crate::validation::{check_header, check_identification, check_segments};
 use std::alloc::Global;
 
-/// The mapped pages that an image has at most.
-const MOST_PAGES: usize = 4096;
-
 /// The segments of a file that passes all tests of the file by itself.
 pub fn accepted_segments(alloc: Global, bytes: &[u8], heap: u32) -> Result<Vec<Segment>, ImageFault>
     ensures segments { IfOk result (λ loaded. loaded.items ≡ segments bytes.now) }
@@ -35,7 +32,7 @@ pub fn accepted_segments(alloc: Global, bytes: &[u8], heap: u32) -> Result<Vec<S
     Ok(segments)
 }
 
-/// The table of pages of at most so many mapped pages as the machine has.
+/// The table of the mapped pages, unless they are too many.
 pub fn map_memory(
     alloc: Global,
     segments: &[Segment],
@@ -46,7 +43,7 @@ pub fn map_memory(
     requires cores { cores ≤ 8 }
     requires stack { stack ≤ 4096 }
     requires heap_end { end_of_heap segments.now heap ≤ address_limit }
-    ensures table { IfOk result (λ table. IsTableOf segments.now cores stack heap table.pages.items table.mapped.items) }
+    ensures table { IfOk result (λ table. IsTableOf segments.now cores stack heap table.mapped.items table.permissions.items) }
     ensures few { IfOk result (λ table. vec_len table.mapped ≤ 4096) }
     ensures refused { IfErr result (λ fault. fault ≢ ImageFault.NoMemory → (fault ≡ ImageFault.TooLarge) × (4096 < count_below (maps segments.now cores stack heap) all_pages)) }
 {
@@ -56,11 +53,7 @@ pub fn map_memory(
         cores,
         stack,
     };
-    let table = page_table(alloc, segments, regions)?;
-    if table.mapped.len() > MOST_PAGES {
-        return Err(ImageFault::TooLarge);
-    }
-    Ok(table)
+    page_table(alloc, segments, regions)
 }
 
 /// Refuses an entry that is not a multiple of 4 or not on an executable page.

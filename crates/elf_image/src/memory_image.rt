@@ -9,7 +9,7 @@ use crate::contents::{PAGE_WORDS, first_words};
 use crate::fault::ImageFault;
 use crate::headers::entry_address;
 use crate::loading::{accepted_segments, check_entry, map_memory};
-use crate::page_table::{Page, PageTable};
+use crate::page_table::{PageTable, Permissions, place_among};
 use crate::segments::{Segment, break_page, segment_at};
 use std::alloc::Global;
 use std::marker::Model;
@@ -23,6 +23,13 @@ const DEVICE_WORDS: u32 = 3;
 /// The word of the break device.
 const BREAK_WORD: u32 = 2;
 
+/// A mapped page: how many mapped pages lie below it, and what may be done there.
+#[derive(Clone, Copy)]
+struct Page {
+    place: u32,
+    permissions: Permissions,
+}
+
 /// A loaded image: what memory holds before the first instruction, and which of it may be written
 /// and executed.
 #[derive(Drop)]
@@ -32,7 +39,8 @@ pub struct Image {
     stack: u32,
     heap: u32,
     segments: Vec<Segment>,
-    pages: Vec<Option<Page>>,
+    mapped: Vec<u32>,
+    permissions: Vec<Permissions>,
     words: Vec<u32>,
     break_base: u32,
     entry: u32,
@@ -47,7 +55,7 @@ impl Model for Image {
 
     ghost view = { λ image. layout_of image.bytes.items image.cores image.stack image.heap };
 
-    ghost invariant = { λ image. IsMemoryOf (layout_of image.bytes.items image.cores image.stack image.heap) image.pages.items image.words.items × IsReadFrom (layout_of image.bytes.items image.cores image.stack image.heap) image.segments.items image.break_base image.entry };
+    ghost invariant = { λ image. IsMemoryOf (layout_of image.bytes.items image.cores image.stack image.heap) image.mapped.items image.permissions.items image.words.items × IsReadFrom (layout_of image.bytes.items image.cores image.stack image.heap) image.segments.items image.break_base image.entry };
 }
 
 /// The image of a file for a count of cores, of the pages of each core's stack and of those of the
@@ -75,14 +83,18 @@ pub fn load(
     let words = first_words(alloc, bytes, &segments, &table.mapped)?;
     let kept = Vec::from_slice(alloc, bytes)?;
     let break_base = PAGE_BYTES * break_page(&segments) as u32;
-    let PageTable { pages, mapped: _ } = table;
+    let PageTable {
+        mapped,
+        permissions,
+    } = table;
     Ok(Image {
         bytes: kept,
         cores,
         stack,
         heap,
         segments,
-        pages,
+        mapped,
+        permissions,
         words,
         break_base,
         entry,
@@ -148,11 +160,23 @@ impl Image {
         Some((segment.start, segment.end as u32, segment.flags))
     }
 
-    /// The entry of the page of an address in the table of pages.
+    /// What the table of pages says of the page of an address; `None` where it is not mapped.
     fn page(&self, address: u32) -> Option<Page>
         ensures { result ≡ page_of_layout self.now (address / 4096) }
     {
-        self.pages[(address / PAGE_BYTES) as usize]
+        let number = address / PAGE_BYTES;
+        let place = place_among(&self.mapped, number);
+        if place == self.mapped.len() {
+            None
+        } else if self.mapped[place] == number {
+            let permissions = self.permissions[place];
+            Some(Page {
+                place: place as u32,
+                permissions,
+            })
+        } else {
+            None
+        }
     }
 
     /// The number of the word that holds an address; `None` where the page is not mapped.
@@ -169,7 +193,7 @@ impl Image {
     {
         match self.page(address) {
             None => false,
-            Some(page) => page.writable,
+            Some(page) => page.permissions.writable,
         }
     }
 
@@ -181,7 +205,7 @@ impl Image {
             return None;
         }
         let page = self.page(pc)?;
-        if !page.executable {
+        if !page.permissions.executable {
             return None;
         }
         let index = PAGE_WORDS * page.place + pc % PAGE_BYTES / 4;

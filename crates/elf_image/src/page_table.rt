@@ -1,25 +1,25 @@
 //! The table of pages: which pages are mapped, their places among the mapped ones, and permissions.
-ghost use Rattle.std.specs.Prelude.{◌≡◌, ◌≤◌, ◌||◌, ◌+◌, ◌<◌, ◌^◌, IfOk};
+ghost use Rattle.std.specs.Prelude.{◌≡◌, ◌≢◌, ◌≤◌, ◌||◌, ◌&&◌, ◌+◌, ◌<◌, ◌-◌, length, slice_index, IfOk, IfErr, vec_len};
 ghost use Rattle.std.specs.List.{list_any};
-ghost use Rattle.elf_image.specs.Elf.{may_execute, may_write};
-ghost use Rattle.elf_image.specs.Layout.{touches, break_page, executes, is_heap_page, is_stack_page};
-ghost use Rattle.elf_image.specs.PageTable.{page_entry, may_write_page, IsTableOf};
+ghost use Rattle.elf_image.specs.Elf.{may_write};
+ghost use Rattle.elf_image.specs.Layout.{all_pages, break_page, count_below, executes, is_heap_page, is_stack_page, is_stack_page_of, maps, touches};
+ghost use Rattle.elf_image.specs.PageTable.{IsNextOf, IsTableOf, may_write_page, permissions_of};
 
-use crate::segments::Segment;
-use std::alloc::{AllocError, Global};
+use crate::fault::ImageFault;
+use crate::segments::{ALL_PAGES, Segment};
+use std::alloc::Global;
 
-/// The pages of the whole address space.
-pub const ALL_PAGES: u32 = 1 << 20;
+/// The mapped pages that an image has at most.
+const MOST_PAGES: usize = 4096;
 
 /// The page above the stack of core 0, and the distance between two stacks.
 const FIRST_STACK_TOP: u32 = 0xf_0000;
 
 const STACK_DISTANCE: u32 = 0x2000;
 
-/// A mapped page: how many mapped pages lie below it, and what may be done there.
+/// What may be done on a mapped page.
 #[derive(Clone, Copy)]
-pub struct Page {
-    pub place: u32,
+pub struct Permissions {
     pub writable: bool,
     pub executable: bool,
 }
@@ -45,6 +45,70 @@ impl DataPages {
             && u64::from(page) < u64::from(self.first) + u64::from(self.heap);
         is_heap || is_stack_page(self.cores, self.stack, page)
     }
+
+    /// The first page from a page on that is one of the heap, or that of the end of memory.
+    fn next_heap_page(self, from: u32) -> u32
+        requires { from ≤ 1048576 }
+        ensures { IsNextOf (is_heap_page self.first self.heap) from result }
+    {
+        let next = from.max(self.first);
+        if next < ALL_PAGES && u64::from(next) < u64::from(self.first) + u64::from(self.heap) {
+            next
+        } else {
+            ALL_PAGES
+        }
+    }
+}
+
+/// The first page from a page on that is one of the stack of a core, or that of the end of memory.
+fn next_page_of_stack(stack: u32, core: u8, from: u32) -> u32
+    requires from { from ≤ 1048576 }
+    requires core { core < 8 }
+    requires stack { stack ≤ 4096 }
+    ensures { IsNextOf (λ page. is_stack_page_of stack page core) from result }
+{
+    let top = FIRST_STACK_TOP - STACK_DISTANCE * u32::from(core);
+    let next = from.max(top - stack);
+    if next < top { next } else { ALL_PAGES }
+}
+
+/// The first page from a page on that is one of some stack, or that of the end of memory.
+fn next_stack_page(cores: u8, stack: u32, from: u32) -> u32
+    requires from { from ≤ 1048576 }
+    requires cores { cores ≤ 8 }
+    requires stack { stack ≤ 4096 }
+    ensures { IsNextOf (is_stack_page cores stack) from result }
+{
+    let mut next = ALL_PAGES;
+    for core in 0..cores {
+        next = next.min(next_page_of_stack(stack, core, from));
+    }
+    next
+}
+
+/// The first page from a page on where some segment has a byte, or that of the end of memory.
+fn next_touched(segments: &[Segment], from: u32) -> u32
+    requires { from ≤ 1048576 }
+    ensures { IsNextOf (λ page. list_any (touches page) segments.now) from result }
+{
+    match segments {
+        [] => ALL_PAGES,
+        [first, rest @ ..] => first.next_touched(from).min(next_touched(rest, from)),
+    }
+}
+
+/// The first page from a page on that is mapped, or that of the end of memory.
+fn next_mapped(segments: &[Segment], regions: DataPages, from: u32) -> u32
+    requires from { from ≤ 1048576 }
+    requires cores { regions.cores ≤ 8 }
+    requires stack { regions.stack ≤ 4096 }
+    requires first { regions.first ≡ break_page segments.now }
+    ensures { IsNextOf (maps segments.now regions.cores regions.stack regions.heap) from result }
+{
+    let touched = next_touched(segments, from);
+    let heap = regions.next_heap_page(from);
+    let stack = next_stack_page(regions.cores, regions.stack, from);
+    touched.min(heap.min(stack))
 }
 
 /// Whether a page is one of the stack of a core.
@@ -58,13 +122,6 @@ fn is_stack_page(cores: u8, stack: u32, page: u32) -> bool
     }
     let below = FIRST_STACK_TOP - 1 - page;
     below / STACK_DISTANCE < u32::from(cores) && below % STACK_DISTANCE < stack
-}
-
-/// Whether some segment has a byte on a page.
-fn any_touches(segments: &[Segment], page: u32) -> bool
-    ensures { result ≡ list_any (touches page) segments.now }
-{
-    segments.iter().any(|segment| segment.touches(page))
 }
 
 /// Whether some segment that may be written has a byte on a page.
@@ -85,60 +142,73 @@ pub fn any_executable(segments: &[Segment], page: u32) -> bool
         .any(|segment| segment.touches(page) && segment.may_execute())
 }
 
-/// What the table holds for a page, where so many pages below it are mapped.
-fn page_at(segments: &[Segment], regions: DataPages, page: u32, place: u32) -> Option<Page>
+/// What may be done on a page.
+fn permissions_on(segments: &[Segment], regions: DataPages, page: u32) -> Permissions
     requires cores { regions.cores ≤ 8 }
     requires stack { regions.stack ≤ 4096 }
     requires first { regions.first ≡ break_page segments.now }
-    ensures { result ≡ page_entry segments.now regions.cores regions.stack regions.heap page place }
+    ensures { result ≡ permissions_of segments.now regions.cores regions.stack regions.heap page }
 {
-    let is_data = regions.contains(page);
-    if is_data {
-        let executable = any_executable(segments, page);
-        Some(Page {
-            place,
-            writable: true,
-            executable,
-        })
-    } else if any_touches(segments, page) {
-        let writable = any_writable(segments, page);
-        let executable = any_executable(segments, page);
-        Some(Page {
-            place,
-            writable,
-            executable,
-        })
-    } else {
-        None
+    let executable = any_executable(segments, page);
+    let writable = any_writable(segments, page) || regions.contains(page);
+    Permissions {
+        writable,
+        executable,
     }
 }
 
-/// The table of pages, and the mapped pages in ascending order.
+/// The mapped pages in ascending order, and what may be done on each.
 #[derive(Drop)]
 pub struct PageTable {
-    pub pages: Vec<Option<Page>>,
     pub mapped: Vec<u32>,
+    pub permissions: Vec<Permissions>,
 }
 
-/// The table of all pages.
+/// The table of all mapped pages, which are to be at most `MOST_PAGES`.
 pub fn page_table(
     alloc: Global,
     segments: &[Segment],
     regions: DataPages,
-) -> Result<PageTable, AllocError>
+) -> Result<PageTable, ImageFault>
     requires cores { regions.cores ≤ 8 }
     requires stack { regions.stack ≤ 4096 }
     requires first { regions.first ≡ break_page segments.now }
-    ensures { IfOk result (λ table. IsTableOf segments.now regions.cores regions.stack regions.heap table.pages.items table.mapped.items) }
+    ensures table { IfOk result (λ table. IsTableOf segments.now regions.cores regions.stack regions.heap table.mapped.items table.permissions.items) }
+    ensures few { IfOk result (λ table. vec_len table.mapped ≤ 4096) }
+    ensures refused { IfErr result (λ fault. fault ≢ ImageFault.NoMemory → (fault ≡ ImageFault.TooLarge) × (4096 < count_below (maps segments.now regions.cores regions.stack regions.heap) all_pages)) }
 {
-    let mut pages = Vec::with_capacity(alloc, ALL_PAGES as usize)?;
     let mut mapped = Vec::new(alloc);
-    for page in 0..ALL_PAGES {
-        let entry = page_at(segments, regions, page, mapped.len() as u32);
-        if entry.is_some() {
-            mapped.push(page)?;
+    let mut allowed = Vec::new(alloc);
+    let mut page = next_mapped(segments, regions, 0);
+    while page < ALL_PAGES {
+        if mapped.len() >= MOST_PAGES {
+            return Err(ImageFault::TooLarge);
         }
-        pages.push(entry)?;
+        mapped.push(page)?;
+        allowed.push(permissions_on(segments, regions, page))?;
+        page = next_mapped(segments, regions, page + 1);
     }
-    Ok(PageTable { pages, mapped })
+    Ok(PageTable {
+        mapped,
+        permissions: allowed,
+    })
+}
+
+/// The place of a page among ascending ones: how many of them are below it.
+pub fn place_among(pages: &[u32], page: u32) -> usize
+    ensures bound { result ≤ length pages.now }
+    ensures below { 0 < result → slice_index pages.now (result - 1) < page }
+    ensures above { result < length pages.now → page ≤ slice_index pages.now result }
+{
+    let mut low = 0;
+    let mut high = pages.len();
+    while low < high {
+        let middle = low + (high - low) / 2;
+        if pages[middle] < page {
+            low = middle + 1;
+        } else {
+            high = middle;
+        }
+    }
+    low
 }

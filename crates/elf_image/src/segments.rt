@@ -1,9 +1,10 @@
 //! The segments that a file loads into memory.
-ghost use Rattle.std.specs.Prelude.{◌≡◌, IfOk, slice_get};
+ghost use Rattle.std.specs.Prelude.{◌≡◌, ◌≤◌, IfOk, slice_get};
 ghost use Rattle.std.specs.List.{list_any};
 ghost use Rattle.elf_image.specs.Elf.{segments_of, may_execute, may_write};
 ghost use Rattle.elf_image.specs.Layout.{touches, fills, highest_end, break_page};
 ghost use Rattle.elf_image.specs.ImageFault.{passes_limit, shares_byte, overlaps, address_limit};
+ghost use Rattle.elf_image.specs.PageTable.{IsNextOf};
 
 use crate::headers::ProgramHeader;
 use std::alloc::{AllocError, Global};
@@ -11,6 +12,9 @@ use std::alloc::{AllocError, Global};
 const PF_X: u32 = 1;
 
 const PF_W: u32 = 2;
+
+/// The pages of the whole address space.
+pub const ALL_PAGES: u32 = 1 << 20;
 
 /// The bytes of a page.
 pub const PAGE_BYTES: u64 = 4096;
@@ -64,6 +68,19 @@ impl Segment {
     {
         let first = PAGE_BYTES * u64::from(page);
         u64::from(self.start) < first + PAGE_BYTES && first < self.end
+    }
+
+    /// The first page from a page on where the segment has a byte, or that of the end of memory.
+    pub fn next_touched(&self, from: u32) -> u32
+        requires { from ≤ 1048576 }
+        ensures { IsNextOf (λ page. touches page self.now) from result }
+    {
+        let next = from.max(self.start / 4096);
+        if next < ALL_PAGES && self.touches(next) {
+            next
+        } else {
+            ALL_PAGES
+        }
     }
 
     /// Whether the file has the byte at an address of the segment.

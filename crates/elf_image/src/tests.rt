@@ -67,7 +67,7 @@ const ECHO_TABLE: [u32; 32] = [
     16,
 ];
 
-/// Its first two words and its last one.
+/// Its fifteen words.
 const ECHO_CODE: [u32; 15] = [
     0xfc01_0113,
     0x0000_0513,

@@ -38,14 +38,14 @@ first_words-requires-clause-low c =
 pub invariant_of-result : goal.invariant_of-result
 invariant_of-result c =
     let table =
-    subst (λ (loaded : List Segment). IsTableOf loaded c.args.cores c.args.stack c.args.heap c.in_ok-table.table.pages.items c.in_ok-table.table.mapped.items) c.deref.ensures.value c.in_ok-table.ensures.table in
+    subst (λ (loaded : List Segment). IsTableOf loaded c.args.cores c.args.stack c.args.heap c.in_ok-table.table.mapped.items c.in_ok-table.table.permissions.items) c.deref.ensures.value c.in_ok-table.ensures.table in
     let few : length c.in_ok-table.table.mapped.items ≤ 4096 =
     subst (λ n. n ≤ 4096) c.in_ok-table.table.mapped.ok.0 c.in_ok-table.ensures.few in
     let contents =
     contents-at c.args.bytes.now c.deref-3.result.now c.in_ok-segments.segments.items c.deref-4.result.now c.in_ok-table.table.mapped.items c.in_ok-words.words.items c.deref-3.ensures.value c.deref-4.ensures.value c.in_ok-words.ensures in
     let first = c.break_page.ensures ∙ ap break_page c.deref-5.ensures.value in
     rw c.in_ok-kept.ensures.items (
-      memory-from c.args.bytes.now c.args.cores c.args.stack c.args.heap c.in_ok-segments.segments.items c.in_ok-table.table.pages.items c.in_ok-table.table.mapped.items c.in_ok-words.words.items c.in_ok-segments.ensures.segments table few contents,
+      memory-from c.args.bytes.now c.args.cores c.args.stack c.args.heap c.in_ok-segments.segments.items c.in_ok-table.table.mapped.items c.in_ok-table.table.permissions.items c.in_ok-words.words.items c.in_ok-segments.ensures.segments table few contents,
       read-from c.args.bytes.now c.args.cores c.args.stack c.args.heap c.break_page.result c.entry_address-entry.result c.in_ok-segments.segments.items c.in_ok-segments.ensures.segments c.in_ok-segments.ensures.few c.in_ok-segments.ensures.ends first c.in_ok-segments.ensures.heap_end c.entry_address-entry.ensures,
     )
 

@@ -27,16 +27,16 @@ overflow_add-index c = let low = place-le _ _ _ c.in_ok-page.ensures in omega ar
 pub index-requires : goal.index-requires
 index-requires c =
     let memory =
-    subst (λ (layout : Layout). IsMemoryOf layout c.self.inside.pages.items c.self.inside.words.items) c.self.view_is c.self.invariant.0 in
+    subst (λ (layout : Layout). IsMemoryOf layout c.self.inside.mapped.items c.self.inside.permissions.items c.self.inside.words.items) c.self.view_is c.self.invariant.0 in
     rw c.self.inside.words.ok.0
-    (index-lt c.args.self.now c.self.inside.pages.items c.self.inside.words.items c.args.pc c.in_ok-page.page memory (omega arith) c.in_ok-page.ensures)
+    (index-lt c.args.self.now c.self.inside.mapped.items c.self.inside.permissions.items c.self.inside.words.items c.args.pc c.in_ok-page.page memory (omega arith) c.in_ok-page.ensures)
 
 pub returns : goal.returns
 returns c =
     let memory =
-    subst (λ (layout : Layout). IsMemoryOf layout c.self.inside.pages.items c.self.inside.words.items) c.self.view_is c.self.invariant.0 in
+    subst (λ (layout : Layout). IsMemoryOf layout c.self.inside.mapped.items c.self.inside.permissions.items c.self.inside.words.items) c.self.view_is c.self.invariant.0 in
     let says = at_entry c.args.self.now (c.args.pc / 4096) c.in_ok-page.page c.in_ok-page.ensures in
     ap Some
     (c.index.ensures
-    ∙ item-at c.args.self.now c.self.inside.pages.items c.self.inside.words.items c.args.pc c.index.result.now c.in_ok-page.page memory (omega arith) c.if-pc-ne0.false c.in_ok-page.ensures)
+    ∙ item-at c.args.self.now c.self.inside.mapped.items c.self.inside.permissions.items c.self.inside.words.items c.args.pc c.index.result.now c.in_ok-page.page memory (omega arith) c.if-pc-ne0.false c.in_ok-page.ensures)
     ∙ fetched-executable c.args.self.now c.args.pc c.if-pc-ne0.false (sym says.executable ∙ not-false _ c.if-not-page.false)
