@@ -1,8 +1,8 @@
 //! A list whose memory is taken once, when it is created: a push within its room cannot fail.
 #![tactic(auto)]
 
-ghost use Rattle.std.specs.Prelude.{◌≡◌, ◌+◌, ◌<◌, ◌≤◌, [], ◌∷◌, ◌++◌, length, slice_get, IfOk, vec_capacity};
-ghost use Rattle.bounded_list.specs.Bounded.{Bounded};
+ghost use Rattle.std.specs.Prelude.{◌≡◌, ◌+◌, ◌^◌, ◌<◌, ◌≤◌, [], ◌∷◌, ◌++◌, length, slice_get, IfOk, vec_capacity};
+ghost use Rattle.bounded_list.specs.Bounded.{Bounded, IsWithinRoom};
 
 use std::alloc::Global;
 use std::marker::Model;
@@ -23,7 +23,7 @@ impl<T> Model for BoundedList<T> {
 
     ghost view = { λ list. record { items = list.items.items; room = list.room } };
 
-    ghost invariant = { λ list. (list.room ≤ vec_capacity list.items) × (length list.items.items ≤ list.room) };
+    ghost invariant = { λ list. IsWithinRoom (length list.items.items) list.room (vec_capacity list.items) };
 }
 
 impl<T> BoundedList<T> {
@@ -45,18 +45,36 @@ impl<T> BoundedList<T> {
         self.items.push(item).unwrap();
     }
 
+    /// Takes all items out; the room stays.
+    pub fn clear(&mut self)
+    where
+        T: Drop,
+        ensures { self.new ≡ record self.old { items = [] } }
+    {
+        self.items.clear();
+    }
+
     /// How many items the list holds.
     pub fn len(&self) -> usize
         ensures count { result ≡ length self.now.items }
         ensures within { result ≤ self.now.room }
+        ensures small { result < 2 ^ 32 }
     {
         self.items.len()
+    }
+
+    /// How many items the list has room for.
+    pub fn room(&self) -> u32
+        ensures { result ≡ self.now.room }
+    {
+        self.room
     }
 
     /// The items, in the order in which they were pushed.
     pub fn as_slice(&self) -> &[T]
         ensures items { result.now ≡ self.now.items }
         ensures within { length result.now ≤ self.now.room }
+        ensures small { length result.now < 2 ^ 32 }
     {
         self.items.as_slice()
     }
@@ -79,13 +97,15 @@ mod tests {
     #[test]
     fn keeps_what_is_pushed(rt: HostRuntime) -> Result<(), Fail> {
         let mut list = BoundedList::create(rt.alloc(), 2)?;
-        assert_eq!(rt; list.len(), 0);
+        assert_eq!(rt; (list.len(), list.room()), (0, 2));
         list.push(7u32);
         list.push(5);
         assert_eq!(rt; list.as_slice(), [7, 5].as_slice());
         for (place, want) in [(0, Some(7)), (1, Some(5)), (2, None)] {
             assert_eq!(rt; list.get(place), want, "at {place}");
         }
+        list.clear();
+        assert_eq!(rt; list.len(), 0);
         Ok(())
     }
 }

@@ -1,3 +1,5 @@
 pub mod Elf
 pub mod ImageFault
 pub mod Layout
+pub mod PageTable
+pub mod Memory

@@ -2,11 +2,16 @@
 //! its mapped pages, their permissions, the numbers of their words and the words' first values.
 #![tactic(auto)]
 
+mod contents;
 mod fault;
 mod headers;
+mod loading;
 mod memory_image;
+mod page_table;
 mod segments;
+#[cfg(test)]
+mod tests;
 mod validation;
 
 pub use crate::fault::ImageFault;
-pub use crate::memory_image::Image;
+pub use crate::memory_image::{Image, load};

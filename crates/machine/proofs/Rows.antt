@@ -11,7 +11,7 @@ use Rattle.record_lane.specs.declared.note.CallNote.{CallNote}
 use Rattle.syscall_drain.specs.declared.end.End.{End}
 use Rattle.syscall_drain.specs.declared.end.End.TheVariants.{Exit, Trapped, Fault, Budget, Spent}
 use Rattle.order_core.specs.declared.entry.Entry.{Entry}
-use Rattle.tag_policy.specs.Rules.{Rules, Or, Check, Jump, CallNumber, Sink}
+use Rattle.tag_policy.specs.Rules.{Rules, no_rules, Or}
 use Rattle.elf_image.specs.Elf.{program_headers, segments}
 use Rattle.elf_image.specs.Layout.{is_mapped, is_writable_page, is_executable_page, count_below, nth_from, word_of, is_writable, word_at, address_of, first_word, fetched, entry_of}
 use Rattle.syscall_drain.specs.Tasks.{opening_local, task_of}
@@ -24,37 +24,34 @@ use Rattle.machine.specs.Runs.{run, along, log_along, entries_from}
 use Rattle.machine.specs.Outcomes.{summaries, output, status_class}
 use Rattle.machine.proofs.Images.{image_of, hi_words, lrsc_words, count_words, jump_words, pass_words, odd_words}
 
--- the checks of the standard policy, and a policy of one check
-abbrev standard_checks : Check → Bool
-standard_checks Jump = true
-standard_checks CallNumber = true
-standard_checks _ = false
-
-abbrev sink_checks : Check → Bool
-sink_checks Sink = true
-sink_checks _ = false
-
-abbrev rules_with : (Check → Bool) → Rules
-rules_with checks = record {
+-- the standard policy, and one with the check on the output alone
+abbrev standard : Rules
+standard = record no_rules {
   source = true;
-  mode = λ class. Or;
+  arith = Or;
+  logic = Or;
+  shift = Or;
+  compare = Or;
+  muldiv = Or;
   load_data = true;
-  load_address = false;
   store_data = true;
-  store_address = false;
-  checks = checks;
+  check_jump = true;
+  check_call_number = true;
 }
 
-abbrev setup : List ℕ → List ℕ → (Check → Bool) → ℕ → ℕ → ℕ → Setup
-setup words input checks cores budget limit = record {
+abbrev check_sink : Rules
+check_sink = record standard { check_jump = false; check_call_number = false; check_sink = true }
+
+abbrev setup : List ℕ → List ℕ → Rules → ℕ → ℕ → ℕ → Setup
+setup words input rules cores budget limit = record {
   program = record { layout = record { bytes = image_of words; cores = cores; stack = 16; heap = 256 }; input = input };
-  policy = rules_with checks ∷ [];
+  policy = rules ∷ [];
   budget = budget;
   limit = limit;
 }
 
 abbrev usual : List ℕ → List ℕ → Setup
-usual words input = setup words input standard_checks 1 1048576 4294967280
+usual words input = setup words input standard 1 1048576 4294967280
 
 -- a unit with an access, and one without
 abbrev access : ℕ → ℕ → ℕ → Entry
@@ -100,13 +97,13 @@ abbrev hi : Setup
 hi = usual hi_words []
 
 abbrev lrsc : Setup
-lrsc = setup lrsc_words [] standard_checks 2 1048576 4294967280
+lrsc = setup lrsc_words [] standard 2 1048576 4294967280
 
 abbrev jump : ℕ → Setup
-jump budget = setup jump_words (0x20 ∷ 0 ∷ 1 ∷ 0 ∷ []) standard_checks 1 budget 4294967280
+jump budget = setup jump_words (0x20 ∷ 0 ∷ 1 ∷ 0 ∷ []) standard 1 budget 4294967280
 
 abbrev pass : Setup
-pass = setup pass_words (97 ∷ 98 ∷ 99 ∷ 100 ∷ []) sink_checks 1 1048576 4294967280
+pass = setup pass_words (97 ∷ 98 ∷ 99 ∷ 100 ∷ []) check_sink 1 1048576 4294967280
 
 abbrev odd : Setup
 odd = usual odd_words (65 ∷ 66 ∷ 67 ∷ 68 ∷ 69 ∷ [])
@@ -123,7 +120,7 @@ turns = 0 ∷ 1 ∷ 0 ∷ 1 ∷ 0 ∷ 1 ∷ 0 ∷ 1 ∷ 0 ∷ 0 ∷ 0 ∷ []
 
 -- the tag of a word after a store of a read call
 abbrev filled : Bool → ℕ → ℕ
-filled whole found = word_tag (rules_with sink_checks ∷ []) no_tags (Touch 0 0 3 0 (Fill whole)) found
+filled whole found = word_tag (check_sink ∷ []) no_tags (Touch 0 0 3 0 (Fill whole)) found
 
 record Worked : Type 0 where
   hi_prints_and_exits : summaries hi (along hi (zeros 13)) ≡ record {
@@ -162,9 +159,9 @@ record Worked : Type 0 where
       access 0 0 0 ∷ access 1027 0 0 ∷ access 1028 0 0 ∷ times 4 no_access ++ access 1027 1 0x42410000 ∷ access 1028 1 0x00454443 ∷ no_access ∷ access 1 0 0 ∷ times 4 no_access
   part_of_a_word_joins_its_tag : (filled false 2 ≡ 3) × (filled true 2 ≡ 1)
   count_ends : endings (usual count_words []) (zeros 3006) ≡ exits 0 3006 ∷ []
-  spent_accesses_end_both : endings (setup count_words [] standard_checks 2 1048576 1) turns ≡ (Some Spent, 7, None) ∷ (Some Spent, 4, None) ∷ []
-  spent_numbers : slice_get (log_along (setup count_words [] standard_checks 2 1048576 1) turns 0) 6 ≡ Some (access 1027 2 1)
-  spent_class : class_along (setup count_words [] standard_checks 2 1048576 1) turns ≡ 5
+  spent_accesses_end_both : endings (setup count_words [] standard 2 1048576 1) turns ≡ (Some Spent, 7, None) ∷ (Some Spent, 4, None) ∷ []
+  spent_numbers : slice_get (log_along (setup count_words [] standard 2 1048576 1) turns 0) 6 ≡ Some (access 1027 2 1)
+  spent_class : class_along (setup count_words [] standard 2 1048576 1) turns ≡ 5
   no_instruction_faults : endings (usual (0 ∷ []) []) (zeros 1) ≡ (Some (Fault Illegal), 1, None) ∷ []
   breakpoint_faults : endings (usual (0x00100073 ∷ []) []) (zeros 1) ≡ (Some (Fault Break), 1, None) ∷ []
   fault_class : class_along (usual (0 ∷ []) []) (zeros 1) ≡ 3

@@ -1,6 +1,8 @@
 -- The canonical merge of logs: at each place stands the least core that is ready. A core is ready where its next
 -- entry has no access, or has the number that its word has reached.
-use Rattle.std.specs.Prelude.{◌≡◌, ℕ, zero, suc, ◌+◌, ◌<◌, ◌==◌, if◌then◌else◌, Bool, true, false, IsTrue, IsFalse, List, [], ◌∷◌, length, drop, Option, Some, None}
+use Rattle.std.specs.Prelude.{◌≡◌, ℕ, zero, suc, ◌+◌, ◌<◌, ◌==◌, Bool, true, false, IsTrue, IsFalse, List, [], ◌∷◌, length, drop, Option, Some, None}
+use Rattle.std.specs.Option.{option_or, option_map_or}
+use Rattle.std.specs.Bool.{then_some}
 use Rattle.order_core.specs.declared.entry.Access.{Access}
 use Rattle.order_core.specs.declared.entry.Entry.{Entry}
 use Rattle.order_core.specs.SetAt.{set_at}
@@ -42,14 +44,13 @@ IsCanonicalMerge logs order = IsCanonicalFrom (log_of logs) (λ word. 0) order
 -- the least ready core below `count`, if one is ready
 abbrev pub least_ready : (ℕ → List Entry) → (ℕ → ℕ) → ℕ → Option ℕ
 least_ready left reached zero = None
-least_ready left reached (suc count) =
-    elim (least_ready left reached count) [ Some core ↦ Some core | None ↦ if is_ready reached (left count) then Some count else None ]
+least_ready left reached (suc count) = option_or (least_ready left reached count) (then_some (is_ready reached (left count)) count)
 
 -- at most `most` places of the canonical order of the cores below `count`
 unfoldable pub canonical_from : ℕ → (ℕ → List Entry) → (ℕ → ℕ) → ℕ → List ℕ
 canonical_from count left reached zero = []
 canonical_from count left reached (suc most) =
-    elim (least_ready left reached count) [ Some core ↦ core ∷ canonical_from count (left_after left core) (reached_after reached (left core)) most | None ↦ [] ]
+    option_map_or (λ core. core ∷ canonical_from count (left_after left core) (reached_after reached (left core)) most) (least_ready left reached count) []
 
 -- the canonical merge, computed: it ends where no core is ready
 abbrev pub canonical : List (List Entry) → List ℕ

@@ -1,5 +1,5 @@
 -- What the reading of a whole file gives, where the contents of the files are told, and when each of its faults comes.
-use Rattle.std.specs.Prelude.{◌≡◌, ℕ, ◌<◌, ◌≤◌, List, length, ⊤, Option, None, Some, Result, Ok, Err, IfSome}
+use Rattle.std.specs.Prelude.{◌≡◌, ℕ, ◌<◌, ◌≤◌, List, length, ⊤, Option, Result, Ok, Err, IfSome}
 use Rattle.outside.specs.declared.files.FileFault.{FileFault}
 use Rattle.outside.specs.declared.files.FileFault.TheVariants.{Failed, TooLong, NoMemory}
 use Rattle.outside.specs.Faults.{Rose}

@@ -149,11 +149,14 @@ decoded_fence w = if funct3 w == 0b000 then Some Fence else None
 abbrev pub decoded_lr : ℕ → Option Insn
 decoded_lr w = if rs2_of w == 0 then Some (Lr (rd_of w) (rs1_of w)) else None
 
+abbrev pub decoded_amo : ℕ → Option Insn
+decoded_amo w = option_map (λ kind. Amo kind (rd_of w) (rs1_of w) (rs2_of w)) (amo_kind (funct5 w))
+
 abbrev pub decoded_word_atomic : ℕ → Option Insn
 decoded_word_atomic w =
     if funct5 w == funct5_lr then decoded_lr w else
     if funct5 w == funct5_sc then Some (Sc (rd_of w) (rs1_of w) (rs2_of w)) else
-    option_map (λ kind. Amo kind (rd_of w) (rs1_of w) (rs2_of w)) (amo_kind (funct5 w))
+    decoded_amo w
 
 abbrev pub decoded_atomic : ℕ → Option Insn
 decoded_atomic w = if funct3 w == width_w then decoded_word_atomic w else None

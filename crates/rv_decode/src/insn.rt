@@ -43,6 +43,23 @@ pub enum ImmKind {
     Srai,
 }
 
+impl ImmKind {
+    ghost use Rattle.std.specs.Prelude.{◌≡◌};
+    ghost use Rattle.rv_decode.specs.Classes.{class_of_imm};
+
+    /// The class of the operation.
+    pub fn class(self) -> Class
+        ensures { result ≡ class_of_imm self }
+    {
+        match self {
+            ImmKind::Addi => Class::Arith,
+            ImmKind::Xori | ImmKind::Ori | ImmKind::Andi => Class::Logic,
+            ImmKind::Slli | ImmKind::Srli | ImmKind::Srai => Class::Shift,
+            ImmKind::Slti | ImmKind::Sltiu => Class::Compare,
+        }
+    }
+}
+
 /// An operation on two registers.
 #[derive(Clone, Copy, Debug, PartialEq, Eq)]
 pub enum RegKind {
@@ -64,6 +81,31 @@ pub enum RegKind {
     Divu,
     Rem,
     Remu,
+}
+
+impl RegKind {
+    ghost use Rattle.std.specs.Prelude.{◌≡◌};
+    ghost use Rattle.rv_decode.specs.Classes.{class_of_reg};
+
+    /// The class of the operation.
+    pub fn class(self) -> Class
+        ensures { result ≡ class_of_reg self }
+    {
+        match self {
+            RegKind::Add | RegKind::Sub => Class::Arith,
+            RegKind::Xor | RegKind::Or | RegKind::And => Class::Logic,
+            RegKind::Sll | RegKind::Srl | RegKind::Sra => Class::Shift,
+            RegKind::Slt | RegKind::Sltu => Class::Compare,
+            RegKind::Mul
+            | RegKind::Mulh
+            | RegKind::Mulhsu
+            | RegKind::Mulhu
+            | RegKind::Div
+            | RegKind::Divu
+            | RegKind::Rem
+            | RegKind::Remu => Class::MulDiv,
+        }
+    }
 }
 
 /// An atomic memory operation.

@@ -1,4 +1,4 @@
-use Rattle.std.proofs.Common.{◌≡◌, take, drop}
+use Rattle.std.proofs.Common.{◌≡◌, drop}
 use Rattle.outside.specs.Memory.{held_by}
 use Rattle.outside.proofs.memory.held_in.Given as goal
 
