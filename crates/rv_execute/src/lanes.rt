@@ -48,7 +48,7 @@ fn shifted_down(word: u32, offset: u32) -> u32
 }
 
 /// What a store of a byte at this offset in its word writes.
-pub fn store_byte(offset: u32, value: u32) -> Op
+pub fn byte_write(offset: u32, value: u32) -> Op
     requires { offset < 4 }
     ensures { result ≡ stored StoreKind.Sb offset value }
 {
@@ -59,7 +59,7 @@ pub fn store_byte(offset: u32, value: u32) -> Op
 }
 
 /// What a store of two bytes at this offset in its word writes.
-pub fn store_half(offset: u32, value: u32) -> Op
+pub fn half_write(offset: u32, value: u32) -> Op
     requires { offset < 3 }
     ensures { result ≡ stored StoreKind.Sh offset value }
 {

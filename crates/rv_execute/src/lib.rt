@@ -10,6 +10,8 @@ mod lanes;
 mod op;
 mod payload;
 mod start;
+#[cfg(test)]
+mod tests;
 
 pub use ask::Ask;
 pub use fault::Fault;

@@ -1,6 +1,6 @@
 //! What an instruction asks.
 
-ghost use Rattle.std.specs.Prelude.{◌≡◌, ◌<◌, ◌==◌, ◌%◌, if◌then◌else◌};
+ghost use Rattle.std.specs.Prelude.{◌≡◌, ◌-◌, ◌<◌, ◌==◌, ◌%◌, if◌then◌else◌};
 ghost use Rattle.std.specs.Option.{ForSome};
 ghost use Rattle.rv_decode.specs.Ranges.{Fits};
 ghost use Rattle.rv_execute.specs.Harts.{state_of, reg};
@@ -12,7 +12,7 @@ use crate::alu::branches;
 use crate::ask::Ask;
 use crate::fault::Fault;
 use crate::hart::Hart;
-use crate::lanes::{store_byte, store_half};
+use crate::lanes::{byte_write, half_write};
 use crate::op::{NO_NUMBER, Op};
 use rv_decode::{BranchKind, Insn, LoadKind, StoreKind};
 
@@ -97,8 +97,9 @@ fn branch(hart: &Hart, kind: BranchKind, rs1: u8, rs2: u8, imm: i32) -> Ask
     }
 }
 
+/// An access to the word in which this address lies.
 fn touch(address: u32, op: Op) -> Ask
-    ensures { result ≡ ask_access 1 address Fault.StoreMisaligned op }
+    ensures { result ≡ Ask.Touch (address - address % 4) op }
 {
     Ask::Touch {
         addr: address - address % 4,
@@ -125,8 +126,8 @@ fn store(kind: StoreKind, address: u32, value: u32) -> Ask
     ensures { result ≡ ask_access (store_size kind) address Fault.StoreMisaligned (stored kind (address % 4) value) }
 {
     match kind {
-        StoreKind::Sb => touch(address, store_byte(address % 4, value)),
-        StoreKind::Sh => half(address, value),
+        StoreKind::Sb => touch(address, byte_write(address % 4, value)),
+        StoreKind::Sh => store_half(address, value),
         StoreKind::Sw => store_word(
             address,
             Op::Write {
@@ -137,16 +138,17 @@ fn store(kind: StoreKind, address: u32, value: u32) -> Ask
     }
 }
 
-fn half(address: u32, value: u32) -> Ask
+fn store_half(address: u32, value: u32) -> Ask
     ensures { result ≡ ask_access 2 address Fault.StoreMisaligned (stored StoreKind.Sh (address % 4) value) }
 {
     if address % 2 == 0 {
-        touch(address, store_half(address % 4, value))
+        touch(address, half_write(address % 4, value))
     } else {
         Ask::Fault(Fault::StoreMisaligned)
     }
 }
 
+/// An access to the whole word at this address, as of a store.
 fn store_word(address: u32, op: Op) -> Ask
     ensures { result ≡ ask_access 4 address Fault.StoreMisaligned op }
 {
