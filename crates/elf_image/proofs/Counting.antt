@@ -47,6 +47,11 @@ count_below-le set (suc n) =
     let h = count_below-le set n in
     elim (set n) as (λ b. count_below set n + (if b then 1 else 0) ≤ suc n) [ true ↦ omega arith | false ↦ omega arith ]
 
+-- nothing is counted below 0
+pub count_from-zero : (set : ℕ → Bool) (n : ℕ) → count_below set 0 + n ≡ n
+unfolding count_below
+count_from-zero set n = omega arith
+
 -- two members with the same count are one
 pub at_the_count : (set : ℕ → Bool) (m n : ℕ) → m ≤ n → set m ≡ true → set n ≡ true → count_below set m ≡ count_below set n → m ≡ n
 at_the_count set m n low here member same =

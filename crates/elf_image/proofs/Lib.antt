@@ -1,5 +1,8 @@
 pub mod Counting
+pub mod FaultLemmas
 pub mod HeaderLemmas
+pub mod LoadLemmas
+pub mod MemoryLemmas
 mod Rows
 pub mod SegmentLemmas
 pub mod StackPages

@@ -1,6 +1,7 @@
 -- Lemmas on lists of segments.
-use Rattle.std.proofs.Common.{◌≡◌, ℕ, ◌<◌, ◌≤◌, List, [], ◌∷◌, max, Bool, true, false, nat_lt, fold, arith, refl, ◌||◌}
+use Rattle.std.proofs.Common.{◌≡◌, ℕ, ◌<◌, ◌≤◌, List, [], ◌∷◌, max, Bool, true, false, nat_lt, fold, arith, refl, zero, suc, Option, Some, slice_get, ◌||◌}
 use Rattle.std.proofs.lemmas.Grind.{common_steps}
+use Rattle.std.proofs.lemmas.Bool.{ltb-false}
 use Rattle.std.specs.List.{list_any}
 use Rattle.elf_image.specs.Layout.{highest_end}
 use Rattle.elf_image.specs.ImageFault.{passes_limit, address_limit}
@@ -21,3 +22,14 @@ fold_max-le low (segment ∷ rest) h none =
 -- where no segment passes the limit, the highest end does not
 pub highest_end-le : (loaded : List Segment) → list_any passes_limit loaded ≡ false → highest_end loaded ≤ address_limit
 highest_end-le loaded none = fold_max-le 0 loaded (omega arith) none
+
+-- where no segment passes the limit, the one at a place does not
+pub end-le : (loaded : List Segment) (place : ℕ) (segment : Segment) → list_any passes_limit loaded ≡ false → Some segment ≡ slice_get loaded place → segment.end ≤ address_limit
+end-le [] place segment none found = cc
+end-le (first ∷ rest) zero segment none found =
+    let parts = or_false (passes_limit first) (list_any passes_limit rest) none in
+    let same : segment ≡ first = cc in
+    rw same (ltb-false _ _ parts.0)
+end-le (first ∷ rest) (suc place) segment none found =
+    let parts = or_false (passes_limit first) (list_any passes_limit rest) none in
+    end-le rest place segment parts.1 found

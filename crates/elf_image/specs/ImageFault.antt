@@ -2,11 +2,11 @@
 use Rattle.std.specs.Prelude.{◌≡◌, ℕ, ◌+◌, ◌*◌, ◌%◌, List, [], ◌∷◌, ◌++◌, length, slice_index, Option, Some, None, Bool, true, false, not, ◌&&◌, ◌||◌, ◌==◌, nat_eq, nat_lt, if◌then◌else◌}
 use Rattle.std.specs.List.{list_any, starts_with}
 use Rattle.elf_image.specs.Elf.{number_at, has_bits, entry_address, table_offset, header_flags, table_entry_size, table_entries, program_headers, is_load, takes_memory, segments}
-use Rattle.elf_image.specs.Layout.{Layout, page_of, all_pages, count_below, is_mapped, is_executable_page, end_of_heap}
+use Rattle.elf_image.specs.Layout.{Layout, layout_of, page_of, all_pages, count_below, is_mapped, is_executable_page, end_of_heap}
 use Rattle.elf_image.specs.declared.headers.ProgramHeader.{ProgramHeader}
 use Rattle.elf_image.specs.declared.segments.Segment.{Segment}
 use Rattle.elf_image.specs.declared.fault.ImageFault.{ImageFault}
-use Rattle.elf_image.specs.declared.fault.ImageFault.TheVariants.{Short, Magic, Class, ByteOrder, Version, Kind, Machine, Flags, HeaderSize, Dynamic, NoLoad, FileRange, AddressRange, Overlap, TooLarge, Entry, NoMemory, Later}
+use Rattle.elf_image.specs.declared.fault.ImageFault.TheVariants.{Short, Magic, Class, ByteOrder, Version, Kind, Machine, Flags, HeaderSize, Dynamic, NoLoad, FileRange, AddressRange, Overlap, TooLarge, Entry, NoMemory}
 
 -- the number of a fault
 abbrev pub fault_number : ImageFault → ℕ
@@ -27,7 +27,6 @@ fault_number Overlap = 14
 fault_number TooLarge = 15
 fault_number Entry = 16
 fault_number NoMemory = 0
-fault_number Later = 0
 
 -- The tests of the bytes that identify an ELF file.
 abbrev pub is_short : List ℕ → Bool
@@ -139,15 +138,17 @@ segment_tests size headers loaded heap =
     ∷ test (overlaps loaded) Overlap
     ∷ []
 
+-- the tests of a file by itself, with the pages of the heap
+abbrev pub file_tests : List ℕ → ℕ → List Test
+file_tests bytes heap =
+    identification_tests bytes
+    ++ header_tests bytes
+    ++ segment_tests (length bytes) (program_headers bytes) (segments bytes) heap
+
 abbrev pub map_tests : Layout → List Test
 map_tests layout = test (is_too_large layout) TooLarge ∷ test (has_bad_entry layout) Entry ∷ []
 
 -- the first test that applies to a file under a count of cores, of stack pages and of heap pages
 unfoldable pub image_fault : List ℕ → ℕ → ℕ → ℕ → Option ImageFault
 image_fault bytes cores stack heap =
-    let layout : Layout = record { bytes = bytes; cores = cores; stack = stack; heap = heap } in
-    first_fault
-    (identification_tests bytes
-    ++ header_tests bytes
-    ++ segment_tests (length bytes) (program_headers bytes) (segments bytes) heap
-    ++ map_tests layout)
+    first_fault (file_tests bytes heap ++ map_tests (layout_of bytes cores stack heap))

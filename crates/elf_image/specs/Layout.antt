@@ -1,6 +1,7 @@
 -- The memory map of an accepted image: its mapped pages as a set, the number of each word, permissions, first words and first registers (RISC-V psABI, "Integer Register Convention", for the use of x2, x10 and x11).
-use Rattle.std.specs.Prelude.{◌≡◌, ℕ, zero, suc, ◌+◌, ◌*◌, ◌-◌, ◌/◌, ◌%◌, ◌<◌, max, List, [], ◌∷◌, slice_index, slice_set, replicate, fold, find, Option, Some, None, Bool, true, false, ◌&&◌, ◌||◌, ◌==◌, nat_lt, nat_le, if◌then◌else◌}
+use Rattle.std.specs.Prelude.{◌≡◌, ℕ, zero, suc, ◌+◌, ◌*◌, ◌-◌, ◌/◌, ◌%◌, ◌<◌, max, List, [], ◌∷◌, slice_get, slice_index, slice_set, replicate, fold, find, Option, Some, None, Bool, true, false, ◌&&◌, ◌||◌, ◌==◌, nat_lt, nat_le, if◌then◌else◌}
 use Rattle.std.specs.List.{range_with_len, list_any}
+use Rattle.std.specs.Option.{option_map}
 use Rattle.byteorder.specs.Endian.{little_number}
 use Rattle.elf_image.specs.Elf.{segments, entry_address, may_execute, may_write}
 use Rattle.elf_image.specs.declared.segments.Segment.{Segment}
@@ -11,6 +12,9 @@ pub record Layout : Type 0 where
   pub cores : ℕ
   pub stack : ℕ
   pub heap : ℕ
+
+abbrev pub layout_of : List ℕ → ℕ → ℕ → ℕ → Layout
+layout_of bytes cores stack heap = record { bytes = bytes; cores = cores; stack = stack; heap = heap }
 
 -- a page is 4,096 bytes, and memory has 2^20 pages
 abbrev pub page_of : ℕ → ℕ
@@ -157,3 +161,8 @@ entry_of layout = entry_address layout.bytes
 abbrev pub first_registers : Layout → ℕ → List ℕ
 first_registers layout core =
     slice_set (slice_set (slice_set (replicate 32 0) 2 (stack_top core - 32)) 10 core) 11 layout.cores
+
+-- the first address, the address after the last and the flags of a segment, in file order
+unfoldable pub segment_at : Layout → ℕ → Option (ℕ × ℕ × ℕ)
+segment_at layout place =
+    option_map (λ (segment : Segment). (segment.start, segment.end, segment.flags)) (slice_get (segments layout.bytes) place)

@@ -2,3 +2,4 @@ pub mod Elf
 pub mod ImageFault
 pub mod Layout
 pub mod PageTable
+pub mod Memory

@@ -1,11 +1,11 @@
 //! What memory holds before the first instruction.
-ghost use Rattle.std.specs.Prelude.{◌≡◌, ◌≤◌, ◌+◌, ◌*◌, ◌<◌, ◌%◌, find, length, IfSome, OnOk};
+ghost use Rattle.std.specs.Prelude.{◌≡◌, ◌≤◌, ◌+◌, ◌*◌, ◌<◌, ◌%◌, All, find, length, IfOk, IfSome, OnOk};
 ghost use Rattle.elf_image.specs.Layout.{fills, byte_of, loaded_word};
-ghost use Rattle.elf_image.specs.PageTable.{IsExtended};
+ghost use Rattle.elf_image.specs.PageTable.{IsContents, IsExtended};
 
 use crate::segments::Segment;
 use byteorder::{ByteOrder, LittleEndian};
-use std::alloc::AllocError;
+use std::alloc::{AllocError, Global};
 
 /// The words of a page.
 pub const PAGE_WORDS: u32 = 1024;
@@ -64,4 +64,22 @@ fn push_page(
         words.push(loaded_word(bytes, segments, 4096 * page + 4 * index))?;
     }
     Ok(())
+}
+
+/// The words of some pages, one after another.
+pub fn first_words(
+    alloc: Global,
+    bytes: &[u8],
+    segments: &[Segment],
+    pages: &[u32],
+) -> Result<Vec<u32>, AllocError>
+    requires few { length pages.now ≤ 4096 }
+    requires low { All (λ page. page < 1048576) pages.now }
+    ensures { IfOk result (λ words. IsContents (loaded_word bytes.now segments.now) pages.now words.items (length pages.now)) }
+{
+    let mut words = Vec::with_capacity(alloc, PAGE_WORDS as usize * pages.len())?;
+    for page in pages {
+        push_page(&mut words, bytes, segments, *page)?;
+    }
+    Ok(words)
 }

@@ -1,6 +1,9 @@
 //! Why a file is no image.
 ghost use Rattle.std.specs.Prelude.{◌≡◌};
 ghost use Rattle.elf_image.specs.ImageFault.{fault_number};
+ghost use Rattle.elf_image.specs.declared.fault.ImageFault.TheVariants.{NoMemory};
+
+use std::alloc::AllocError;
 
 /// Why `load` gives no image: the first of the tests, in this order, that applies to the file.
 #[derive(Clone, Copy, Debug, PartialEq, Eq)]
@@ -39,14 +42,11 @@ pub enum ImageFault {
     Entry,
     /// There was no memory for the image. It says nothing of the file.
     NoMemory,
-    /// The file is none that this version loads: it is of another form than the one segment of at
-    /// most 1,024 words.
-    Later,
 }
 
 impl ImageFault {
-    /// The fault's number: 1 to 16 in the order of the tests, and 0 for `NoMemory` and `Later`,
-    /// which are no tests.
+    /// The fault's number: 1 to 16 in the order of the tests, and 0 for `NoMemory`, which is no
+    /// test.
     pub fn number(self) -> u8
         ensures { result ≡ fault_number self }
     {
@@ -67,7 +67,15 @@ impl ImageFault {
             ImageFault::Overlap => 14,
             ImageFault::TooLarge => 15,
             ImageFault::Entry => 16,
-            ImageFault::NoMemory | ImageFault::Later => 0,
+            ImageFault::NoMemory => 0,
         }
+    }
+}
+
+impl From<AllocError> for ImageFault {
+    ghost from_gives = { λ _ fault. fault ≡ NoMemory };
+
+    fn from(_error: AllocError) -> ImageFault {
+        ImageFault::NoMemory
     }
 }

@@ -1,7 +1,7 @@
 //! The program headers of an ELF file.
 ghost use Rattle.std.specs.Prelude.{◌≡◌, ◌+◌, ◌*◌, ◌^◌, ◌<◌, ◌≤◌, false, length, IfOk};
 ghost use Rattle.std.specs.List.{list_any};
-ghost use Rattle.elf_image.specs.Elf.{header_at, program_headers, is_load, table_entries, table_offset, takes_memory, segment_of};
+ghost use Rattle.elf_image.specs.Elf.{entry_address, header_at, program_headers, is_load, table_entries, table_offset, takes_memory, segment_of};
 ghost use Rattle.elf_image.specs.ImageFault.{is_dynamic, has_bad_file_range, has_bad_table};
 
 use crate::segments::Segment;
@@ -79,6 +79,14 @@ impl ProgramHeader {
             file_size: self.file_size,
         }
     }
+}
+
+/// The address of the first instruction.
+pub fn entry_address(bytes: &[u8]) -> u32
+    requires { 52 ≤ length bytes.now }
+    ensures { result ≡ entry_address bytes.now }
+{
+    LittleEndian::read_u32(&bytes[24..])
 }
 
 /// Where the program headers begin in the file.

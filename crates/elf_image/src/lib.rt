@@ -5,10 +5,13 @@
 mod contents;
 mod fault;
 mod headers;
+mod loading;
 mod memory_image;
 mod page_table;
 mod segments;
+#[cfg(test)]
+mod tests;
 mod validation;
 
 pub use crate::fault::ImageFault;
-pub use crate::memory_image::Image;
+pub use crate::memory_image::{Image, load};

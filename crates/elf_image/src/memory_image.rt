@@ -1,5 +1,27 @@
 //! The memory map of a loaded file.
+ghost use Rattle.std.specs.Prelude.{◌≡◌, ◌≢◌, ◌/◌, ◌<◌, ◌≤◌, length, Some, None, IfOk, IfErr, OnOk};
+ghost use Rattle.elf_image.specs.Elf.{segments};
+ghost use Rattle.elf_image.specs.ImageFault.{image_fault};
+ghost use Rattle.elf_image.specs.Layout.{break_base, entry_of, fetched, first_word, heap_end, is_writable, layout_of, segment_at, word_of, words_of};
+ghost use Rattle.elf_image.specs.Memory.{page_of_layout};
+
+use crate::contents::{PAGE_WORDS, first_words};
+use crate::fault::ImageFault;
+use crate::headers::entry_address;
+use crate::loading::{accepted_segments, check_entry, map_memory};
+use crate::page_table::{Page, PageTable};
+use crate::segments::{Segment, break_page, segment_at};
+use std::alloc::Global;
 use std::marker::Model;
+
+/// The bytes of a page.
+const PAGE_BYTES: u32 = 4096;
+
+/// The devices' words, which come before those of memory: input, output and break.
+const DEVICE_WORDS: u32 = 3;
+
+/// The word of the break device.
+const BREAK_WORD: u32 = 2;
 
 /// A loaded image: what memory holds before the first instruction, and which of it may be written
 /// and executed.
@@ -9,12 +31,181 @@ pub struct Image {
     cores: u8,
     stack: u32,
     heap: u32,
+    segments: Vec<Segment>,
+    pages: Vec<Option<Page>>,
+    words: Vec<u32>,
+    break_base: u32,
+    entry: u32,
 }
 
 impl Model for Image {
-    ghost use Rattle.elf_image.specs.Layout.{Layout};
+    ghost use Rattle.std.specs.Prelude.{◌≤◌};
+    ghost use Rattle.elf_image.specs.Layout.{Layout, layout_of};
+    ghost use Rattle.elf_image.specs.Memory.{IsMemoryOf, IsReadFrom};
 
     ghost Value = { Layout };
 
-    ghost view = { λ image. record { bytes = image.bytes.items; cores = image.cores; stack = image.stack; heap = image.heap } };
+    ghost view = { λ image. layout_of image.bytes.items image.cores image.stack image.heap };
+
+    ghost invariant = { λ image. IsMemoryOf (layout_of image.bytes.items image.cores image.stack image.heap) image.pages.items image.words.items × IsReadFrom (layout_of image.bytes.items image.cores image.stack image.heap) image.segments.items image.break_base image.entry };
+}
+
+/// The image of a file for a count of cores, of the pages of each core's stack and of those of the
+/// heap, or the first of the file's faults. `NoMemory` may come in place of either.
+pub fn load(
+    alloc: Global,
+    bytes: &[u8],
+    cores: u8,
+    stack: u32,
+    heap: u32,
+) -> Result<Image, ImageFault>
+    requires cores_low { 1 ≤ cores }
+    requires cores_high { cores ≤ 8 }
+    requires stack_low { 1 ≤ stack }
+    requires stack_high { stack ≤ 4096 }
+    requires heap_high { heap ≤ 4096 }
+    ensures image { IfOk result (λ image. image ≡ layout_of bytes.now cores stack heap) }
+    ensures accepted { OnOk result (image_fault bytes.now cores stack heap ≡ None) }
+    ensures refused { IfErr result (λ fault. fault ≢ ImageFault.NoMemory → image_fault bytes.now cores stack heap ≡ Some fault) }
+{
+    let segments = accepted_segments(alloc, bytes, heap)?;
+    let table = map_memory(alloc, &segments, cores, stack, heap)?;
+    let entry = entry_address(bytes);
+    check_entry(entry, &segments)?;
+    let words = first_words(alloc, bytes, &segments, &table.mapped)?;
+    let kept = Vec::from_slice(alloc, bytes)?;
+    let break_base = PAGE_BYTES * break_page(&segments) as u32;
+    let PageTable { pages, mapped: _ } = table;
+    Ok(Image {
+        bytes: kept,
+        cores,
+        stack,
+        heap,
+        segments,
+        pages,
+        words,
+        break_base,
+        entry,
+    })
+}
+
+impl Image {
+    /// The count of cores.
+    pub fn cores(&self) -> u8
+        ensures { result ≡ self.now.cores }
+    {
+        self.cores
+    }
+
+    /// The pages of each stack.
+    pub fn stack(&self) -> u32
+        ensures { result ≡ self.now.stack }
+    {
+        self.stack
+    }
+
+    /// The pages of the heap.
+    pub fn heap(&self) -> u32
+        ensures { result ≡ self.now.heap }
+    {
+        self.heap
+    }
+
+    /// The address of the first instruction.
+    pub fn entry(&self) -> u32
+        ensures { result ≡ entry_of self.now }
+    {
+        self.entry
+    }
+
+    /// The first address of the heap.
+    pub fn break_base(&self) -> u32
+        ensures { result ≡ break_base self.now }
+    {
+        self.break_base
+    }
+
+    /// The address above the heap.
+    pub fn heap_end(&self) -> u32
+        ensures { result ≡ heap_end self.now }
+    {
+        self.break_base + PAGE_BYTES * self.heap
+    }
+
+    /// How many segments are loaded.
+    pub fn segments(&self) -> u32
+        ensures { result ≡ length (segments self.now.bytes) }
+    {
+        self.segments.len() as u32
+    }
+
+    /// The first address, the address after the last and the permission flags of a segment, in file
+    /// order; `None` at or past their count.
+    pub fn segment(&self, place: u32) -> Option<(u32, u32, u32)>
+        ensures { result ≡ segment_at self.now place }
+    {
+        let segment = segment_at(&self.segments, place as usize)?;
+        Some((segment.start, segment.end as u32, segment.flags))
+    }
+
+    /// The entry of the page of an address in the table of pages.
+    fn page(&self, address: u32) -> Option<Page>
+        ensures { result ≡ page_of_layout self.now (address / 4096) }
+    {
+        self.pages[(address / PAGE_BYTES) as usize]
+    }
+
+    /// The number of the word that holds an address; `None` where the page is not mapped.
+    pub fn word_of(&self, address: u32) -> Option<u32>
+        ensures { result ≡ word_of self.now address }
+    {
+        let page = self.page(address)?;
+        Some(DEVICE_WORDS + PAGE_WORDS * page.place + address % PAGE_BYTES / 4)
+    }
+
+    /// Whether the page of an address may be written.
+    pub fn writable(&self, address: u32) -> bool
+        ensures { result ≡ is_writable self.now address }
+    {
+        match self.page(address) {
+            None => false,
+            Some(page) => page.writable,
+        }
+    }
+
+    /// The loaded word at a pc that is a multiple of 4 on an executable page.
+    pub fn fetch(&self, pc: u32) -> Option<u32>
+        ensures { result ≡ fetched self.now pc }
+    {
+        if pc % 4 != 0 {
+            return None;
+        }
+        let page = self.page(pc)?;
+        if !page.executable {
+            return None;
+        }
+        let index = PAGE_WORDS * page.place + pc % PAGE_BYTES / 4;
+        Some(self.words[index as usize])
+    }
+
+    /// How many words there are: the three devices, and those of all mapped pages.
+    pub fn words(&self) -> u32
+        ensures { result ≡ words_of self.now }
+    {
+        DEVICE_WORDS + self.words.len() as u32
+    }
+
+    /// The first value of a word.
+    pub fn first_word(&self, word: u32) -> u32
+        requires { word < words_of self.now }
+        ensures { result ≡ first_word self.now word }
+    {
+        if word < BREAK_WORD {
+            0
+        } else if word == BREAK_WORD {
+            self.break_base
+        } else {
+            self.words[(word - DEVICE_WORDS) as usize]
+        }
+    }
 }

@@ -77,7 +77,7 @@ fn any_writable(segments: &[Segment], page: u32) -> bool
 }
 
 /// Whether some segment that may be executed has a byte on a page.
-fn any_executable(segments: &[Segment], page: u32) -> bool
+pub fn any_executable(segments: &[Segment], page: u32) -> bool
     ensures { result ≡ executes segments.now page }
 {
     segments
@@ -113,11 +113,11 @@ fn page_at(segments: &[Segment], regions: DataPages, page: u32, place: u32) -> O
     }
 }
 
-/// The table of pages, and how many of them are mapped.
+/// The table of pages, and the mapped pages in ascending order.
 #[derive(Drop)]
 pub struct PageTable {
     pub pages: Vec<Option<Page>>,
-    pub mapped: u32,
+    pub mapped: Vec<u32>,
 }
 
 /// The table of all pages.
@@ -129,14 +129,14 @@ pub fn page_table(
     requires cores { regions.cores ≤ 8 }
     requires stack { regions.stack ≤ 4096 }
     requires first { regions.first ≡ break_page segments.now }
-    ensures { IfOk result (λ table. IsTableOf segments.now regions.cores regions.stack regions.heap table.pages.items table.mapped) }
+    ensures { IfOk result (λ table. IsTableOf segments.now regions.cores regions.stack regions.heap table.pages.items table.mapped.items) }
 {
     let mut pages = Vec::with_capacity(alloc, ALL_PAGES as usize)?;
-    let mut mapped = 0;
+    let mut mapped = Vec::new(alloc);
     for page in 0..ALL_PAGES {
-        let entry = page_at(segments, regions, page, mapped);
+        let entry = page_at(segments, regions, page, mapped.len() as u32);
         if entry.is_some() {
-            mapped += 1;
+            mapped.push(page)?;
         }
         pages.push(entry)?;
     }

@@ -1,5 +1,5 @@
 //! The segments that a file loads into memory.
-ghost use Rattle.std.specs.Prelude.{◌≡◌, ◌≤◌, IfOk, All};
+ghost use Rattle.std.specs.Prelude.{◌≡◌, IfOk, slice_get};
 ghost use Rattle.std.specs.List.{list_any};
 ghost use Rattle.elf_image.specs.Elf.{segments_of, may_execute, may_write};
 ghost use Rattle.elf_image.specs.Layout.{touches, fills, highest_end, break_page};
@@ -84,6 +84,13 @@ pub fn loaded_segments(alloc: Global, headers: &[ProgramHeader]) -> Result<Vec<S
         .filter(|header| header.takes_memory())
         .map(|header| header.segment())
         .collect(alloc)
+}
+
+/// The segment at a place.
+pub fn segment_at(segments: &[Segment], place: usize) -> Option<Segment>
+    ensures { result ≡ slice_get segments.now place }
+{
+    segments.get(place).copied()
 }
 
 /// Whether some segment passes the highest address of segments.

@@ -1,6 +1,7 @@
 //! The tests of a file's headers and segments, in the order of their faults.
 ghost use Rattle.std.specs.Prelude.{◌≡◌, ◌≤◌, false, length};
 ghost use Rattle.std.specs.List.{list_any};
+ghost use Rattle.std.specs.Result.{result_err};
 ghost use Rattle.elf_image.specs.Layout.{end_of_heap};
 ghost use Rattle.elf_image.specs.ImageFault.{first_fault, has_bad_table, header_tests, identification_tests, passes_limit, segment_tests};
 
@@ -46,40 +47,40 @@ fn has_bad_table(bytes: &[u8]) -> bool
     }
 }
 
-/// The first fault of the bytes that identify an ELF file.
-pub fn identification_fault(bytes: &[u8]) -> Option<ImageFault>
-    ensures { result ≡ first_fault (identification_tests bytes.now) }
+/// Refuses a file by the first fault of the bytes that identify an ELF file.
+pub fn check_identification(bytes: &[u8]) -> Result<(), ImageFault>
+    ensures { result_err result ≡ first_fault (identification_tests bytes.now) }
 {
     if bytes.len() < ELF_HEADER_BYTES {
-        Some(ImageFault::Short)
+        Err(ImageFault::Short)
     } else if !bytes.starts_with(&MAGIC) {
-        Some(ImageFault::Magic)
+        Err(ImageFault::Magic)
     } else if bytes[4] != CLASS_32 {
-        Some(ImageFault::Class)
+        Err(ImageFault::Class)
     } else if bytes[5] != LITTLE_ENDIAN {
-        Some(ImageFault::ByteOrder)
+        Err(ImageFault::ByteOrder)
     } else if bytes[6] != CURRENT_VERSION || LittleEndian::read_u32(&bytes[20..]) != 1 {
-        Some(ImageFault::Version)
+        Err(ImageFault::Version)
     } else {
-        None
+        Ok(())
     }
 }
 
-/// The first fault of the rest of the ELF header.
-pub fn header_fault(bytes: &[u8]) -> Option<ImageFault>
+/// Refuses a file by the first fault of the rest of its ELF header.
+pub fn check_header(bytes: &[u8]) -> Result<(), ImageFault>
     requires { 52 ≤ length bytes.now }
-    ensures { result ≡ first_fault (header_tests bytes.now) }
+    ensures { result_err result ≡ first_fault (header_tests bytes.now) }
 {
     if LittleEndian::read_u16(&bytes[16..]) != EXECUTABLE {
-        Some(ImageFault::Kind)
+        Err(ImageFault::Kind)
     } else if LittleEndian::read_u16(&bytes[18..]) != RISC_V {
-        Some(ImageFault::Machine)
+        Err(ImageFault::Machine)
     } else if LittleEndian::read_u32(&bytes[36..]) & UNSUPPORTED_FLAGS != 0 {
-        Some(ImageFault::Flags)
+        Err(ImageFault::Flags)
     } else if has_bad_table(bytes) {
-        Some(ImageFault::HeaderSize)
+        Err(ImageFault::HeaderSize)
     } else {
-        None
+        Ok(())
     }
 }
 
@@ -92,29 +93,29 @@ pub fn end_of_heap(segments: &[Segment], heap: u32) -> u64
     PAGE_BYTES * break_page(segments) + PAGE_BYTES * u64::from(heap)
 }
 
-/// The first fault of the program headers of a file of a size, of the segments that they load and of
-/// a heap of some pages.
-pub fn segment_fault(
+/// Refuses a file of a size by the first fault of its program headers, of the segments that they load
+/// and of a heap of some pages.
+pub fn check_segments(
     size: usize,
     headers: &[ProgramHeader],
     segments: &[Segment],
     heap: u32,
-) -> Option<ImageFault>
-    ensures { result ≡ first_fault (segment_tests size headers.now segments.now heap) }
+) -> Result<(), ImageFault>
+    ensures { result_err result ≡ first_fault (segment_tests size headers.now segments.now heap) }
 {
     if any_dynamic(headers) {
-        Some(ImageFault::Dynamic)
+        Err(ImageFault::Dynamic)
     } else if segments.is_empty() {
-        Some(ImageFault::NoLoad)
+        Err(ImageFault::NoLoad)
     } else if any_bad_file_range(headers, size) {
-        Some(ImageFault::FileRange)
+        Err(ImageFault::FileRange)
     } else if any_passes_limit(segments) {
-        Some(ImageFault::AddressRange)
+        Err(ImageFault::AddressRange)
     } else if end_of_heap(segments, heap) > ADDRESS_LIMIT {
-        Some(ImageFault::AddressRange)
+        Err(ImageFault::AddressRange)
     } else if overlap(segments) {
-        Some(ImageFault::Overlap)
+        Err(ImageFault::Overlap)
     } else {
-        None
+        Ok(())
     }
 }

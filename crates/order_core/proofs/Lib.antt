@@ -1,2 +1,10 @@
 mod Rows
+pub mod SetAtLemmas
+pub mod Total
+pub mod CanonicalLemmas
 pub mod Merging
+pub mod Giving
+pub mod MarkedLemmas
+pub mod LegalLemmas
+pub mod CanonicalLaws
+pub mod HistoryLaws

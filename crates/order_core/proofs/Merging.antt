@@ -1,9 +1,11 @@
 -- How the code that merges stands to the definition of the canonical merge.
-use Rattle.std.proofs.Common.{◌≡◌, ℕ, zero, suc, ◌+◌, ◌<◌, ◌≤◌, List, [], ◌∷◌, length, get_or, drop, Bool, true, false, cond, All, Option, Some, None, refl, sym, ap, subst, arith, ◌∙◌, add-one, inl, inr, eq-or-lt_of_le, le_of_suc-le-suc}
+use Rattle.std.proofs.Common.{◌≡◌, ◌≢◌, ◌⊎◌, set, eqb, get_or-set_same, get_or-set_other, drop-drop, ℕ, zero, suc, ◌+◌, ◌<◌, ◌≤◌, List, [], ◌∷◌, length, get_or, drop, Bool, true, false, cond, All, Option, Some, None, refl, sym, ap, subst, arith, ◌∙◌, add-one, inl, inr, eq-or-lt_of_le, le_of_suc-le-suc}
 use Rattle.bounded_list.specs.Bounded.{Bounded}
 use Rattle.order_core.specs.declared.entry.Entry.{Entry}
 use Rattle.order_core.specs.Logs.{logs_of, log_of, TouchesBelow, AllTouchBelow, entry_count}
-use Rattle.order_core.specs.CanonicalMerge.{is_ready, least_ready}
+use mathlib.Core.Path.{fun_ext}
+use Rattle.std.proofs.lemmas.Bool.Decides.{eqb_tells}
+use Rattle.order_core.specs.CanonicalMerge.{is_ready, least_ready, left_after}
 use Rattle.order_core.specs.Places.{left_at, reached_at}
 
 -- the log of a core among lists
@@ -34,6 +36,43 @@ pub least_ready-found : (left : ℕ → List Entry) (reached : ℕ → ℕ) (cor
 least_ready-found left reached core zero e f h = absurd (omega arith)
 least_ready-found left reached core (suc count) e f h =
     elim (eq-or-lt_of_le (le_of_suc-le-suc h)) [
-      inl same ↦ rw (← same, e, f) refl
+      | inl same ↦ rw (← same, e, f) refl
       | inr less ↦ rw (least_ready-found left reached core count e f less) refl
     ]
+
+-- a core that is ready has an entry at its place
+pub place-below : (reached : ℕ → ℕ) (place : ℕ) (log : List Entry) → is_ready reached (drop place log) ≡ true → place < length log
+place-below reached zero [] e = cc
+place-below reached zero (x ∷ xs) e = omega arith
+place-below reached (suc place) [] e = cc
+place-below reached (suc place) (x ∷ xs) e = let below = place-below reached place xs e in omega arith
+
+-- one entry of a core is given
+pub left_at-set : (logs : List (List Entry)) (places : List ℕ) (core : ℕ) → core < length places → left_at logs (set places core (get_or places core 0 + 1)) ≡ left_after (left_at logs places) core
+left_at-set logs places core h = fun_ext (λ other. at other (eqb_tells other core))
+  where
+    at : (other : ℕ) → ((eqb other core ≡ true) × (other ≡ core)) ⊎ ((eqb other core ≡ false) × (other ≢ core))
+        → left_at logs (set places core (get_or places core 0 + 1)) other ≡ left_after (left_at logs places) core other
+    at other (inl same) = rw (same.0, same.1, get_or-set_same places core (get_or places core 0 + 1) 0 h) (sym (drop-drop 1 (get_or places core 0) (log_of logs core)))
+    at other (inr apart) = rw (apart.0, get_or-set_other places core other (get_or places core 0 + 1) 0 apart.1) refl
+
+-- the next entry of a log, at its place
+pub drop-entry : (log : List Entry) (place : ℕ) (entry : Entry) → place < length log → entry ≡ get_or log place entry → drop place log ≡ entry ∷ drop 1 (drop place log)
+drop-entry [] place entry h e = absurd (omega arith)
+drop-entry (x ∷ xs) zero entry h e = ap (λ (y : Entry). y ∷ xs) (sym e)
+drop-entry (x ∷ xs) (suc place) entry h e = drop-entry xs place entry (omega arith) e
+
+-- it touches what the log's entries touch
+pub touches-entry : (words : ℕ) (log : List Entry) (place : ℕ) (entry : Entry) → All (TouchesBelow words) log → place < length log → entry ≡ get_or log place entry → TouchesBelow words entry
+touches-entry words log place entry w h e = let P : Entry → Type 0 = TouchesBelow words in subst P (sym e) (w place entry h)
+
+-- the accesses of all lists, and those of the logs that they hold
+pub all_touch_below-from_lists : (words : ℕ) (lists : List (Bounded Entry)) → All (λ list. All (TouchesBelow words) list.items) lists → AllTouchBelow words (logs_of lists)
+all_touch_below-from_lists words [] h k d lt = absurd (omega arith)
+all_touch_below-from_lists words (x ∷ xs) h zero d lt = h zero x (omega arith)
+all_touch_below-from_lists words (x ∷ xs) h (suc k) d lt = all_touch_below-from_lists words xs (λ j e m. h (suc j) e (omega arith)) k d (omega arith)
+
+pub all_touch_below-to_lists : (words : ℕ) (lists : List (Bounded Entry)) → AllTouchBelow words (logs_of lists) → All (λ list. All (TouchesBelow words) list.items) lists
+all_touch_below-to_lists words [] h k d lt = absurd (omega arith)
+all_touch_below-to_lists words (x ∷ xs) h zero d lt = h zero [] (omega arith)
+all_touch_below-to_lists words (x ∷ xs) h (suc k) d lt = all_touch_below-to_lists words xs (λ j e m. h (suc j) e (omega arith)) k d (omega arith)

@@ -13,6 +13,9 @@ pub record IsLegalMerge (logs : List (List Entry)) (marked : List Marked) : Type
   pub parts : (core : ℕ) → part_of core marked ≡ log_of logs core
   pub numbers : (word : ℕ) → CountUpFrom 0 (numbers_of word marked)
 
+abbrev pub HasLegalMerge : List (List Entry) → Type 0
+HasLegalMerge logs = (marked : List Marked) × IsLegalMerge logs marked
+
 -- a list of cores that is the order of a legal merge of the logs
 pub record IsLegalOrder (logs : List (List Entry)) (order : List ℕ) : Type 0 where
   pub marked : List Marked

@@ -4,5 +4,7 @@ pub mod Logs
 pub mod Marked
 pub mod LegalMerge
 pub mod CanonicalMerge
+pub mod History
+pub mod MergeLaws
 pub mod Room
 pub mod Places

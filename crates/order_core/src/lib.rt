@@ -2,8 +2,9 @@
 #![tactic(auto)]
 
 mod entry;
-mod merge;
+pub mod laws;
+mod merge_room;
 
 pub use bounded_list::{BoundedList, NoMemory};
 pub use entry::{Access, Bytes, CoreLog, Entry, Order, Pieces};
-pub use merge::MergeRoom;
+pub use merge_room::{MergeRoom, all_touch_below, merge};

@@ -1,4 +1,5 @@
 pub mod Faults
 pub mod Files
+pub mod Host
 pub mod Memory
 pub mod Sinks

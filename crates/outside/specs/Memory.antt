@@ -19,8 +19,8 @@ abbrev pub room_left : MemorySink → ℕ
 room_left sink = sink.room - length sink.bytes
 
 -- the next call fails where it is one of those that fail, or where no room is left
-abbrev pub IsRefusing : MemorySink → Type 0
-IsRefusing sink = Contains sink.failing sink.calls ⊎ (room_left sink ≡ 0)
+abbrev pub RefusesWrite : MemorySink → Type 0
+RefusesWrite sink = Contains sink.failing sink.calls ⊎ (room_left sink ≡ 0)
 
 -- a file: its name and its bytes
 pub record NamedFile : Type 0 where
@@ -44,5 +44,5 @@ pub record MemoryFiles : Type 0 where
   pub faults : ℕ
 
 -- the next call for this name fails where it is one of those that fail, or where no file has the name
-abbrev pub IsMissing : MemoryFiles → List ℕ → Type 0
-IsMissing files name = Contains files.failing files.calls ⊎ IsNone (held_by files.files name)
+abbrev pub RefusesReading : MemoryFiles → List ℕ → Type 0
+RefusesReading files name = Contains files.failing files.calls ⊎ IsNone (held_by files.files name)

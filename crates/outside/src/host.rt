@@ -1,8 +1,8 @@
 // Files and sinks of the host, over std. They tell no contents.
-ghost use Rattle.std.specs.Prelude.{◌≡◌, ◌≤◌, ◌<◌, IfOk, IsOk, OnOk, OnErr, length, Some, None, take};
-ghost use Rattle.std.specs.Io.KnownBytes.{Appends};
+ghost use Rattle.std.specs.Prelude.{◌≡◌, ◌<◌, ◌≤◌, IfOk, IsOk, length, take};
+ghost use Rattle.std.specs.Io.KnownBytes.{Appends, WriteAppends};
 ghost use Rattle.outside.specs.Faults.{HasCause};
-ghost use Rattle.outside.specs.Files.{ReadsHeld, HasFileCause};
+ghost use Rattle.outside.specs.Files.{ReadsHeld};
 ghost use Rattle.outside.specs.Sinks.{TakesSome};
 
 use crate::files::{FileFault, Files};
@@ -103,23 +103,23 @@ pub struct HostSink<W: Write> {
 }
 
 impl<W: Write> Model for HostSink<W> {
-    ghost use Rattle.std.specs.Prelude.{ℕ};
+    ghost use Rattle.outside.specs.Host.{HostedWriter};
 
-    ghost Value = { ℕ };
+    ghost Value = { HostedWriter W };
 
-    ghost view = { λ sink. sink.faults };
+    ghost view = { λ sink. record { writer = sink.writer; faults = sink.faults } };
 }
 
 impl<W: Write> HostSink<W> {
     pub fn new(writer: W) -> HostSink<W>
-        ensures { result ≡ 0 }
+        ensures { result ≡ record { writer = writer; faults = 0 } }
     {
         HostSink { writer, faults: 0 }
     }
 
     /// The count of faults.
     pub fn faults(&self) -> u64
-        ensures { result ≡ self.now }
+        ensures { result ≡ self.now.faults }
     {
         self.faults
     }
@@ -130,9 +130,18 @@ impl<W: Write> Sink for HostSink<W> {
 
     ghost written = { λ _. None };
 
-    ghost faults = { λ sink. sink };
+    ghost faults = { λ sink. sink.faults };
 
-    fn write(&mut self, bytes: &[u8]) -> Result<usize, SinkFault> {
+    fn write(&mut self, bytes: &[u8]) -> Result<usize, SinkFault>
+        ensures taken { IfOk result (TakesSome bytes.now) }
+        ensures empty { length bytes.now ≡ 0 → IsOk result }
+        ensures bytes { WriteAppends None None result bytes.now }
+        ensures cause { HasCause self.old.faults self.new.faults result }
+
+        // The writer got the bytes that were taken.
+        ensures passed { IfOk result (λ count. Appends (W.contents self.old.writer)
+            (W.contents self.new.writer) (take count bytes.now)) }
+    {
         if bytes.is_empty() {
             return Ok(0);
         }

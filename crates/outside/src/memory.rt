@@ -1,11 +1,11 @@
 // Files and sinks in memory.
-ghost use Rattle.std.specs.Prelude.{◌⊎◌, IsNone, IfSome, Contains, ◌≢◌, ℕ, ◌≤◌, ◌∷◌, ◌++◌, List, OnOk, option_copied, unwrap_or, ◌≡◌, ◌-◌, ◌<◌, ◌↔◌, [], IfOk, IsOk, IsErr, OnErr, length, min};
+ghost use Rattle.std.specs.Prelude.{◌≡◌, ◌≢◌, ℕ, ◌<◌, ◌≤◌, ◌↔◌, ◌⊎◌, List, [], ◌∷◌, ◌++◌, length, min, Contains, IfSome, IsNone, option_copied, unwrap_or, IfOk, IsOk, OnOk, IsErr, OnErr};
 ghost use Rattle.std.specs.Str.{bytes_eq};
 ghost use Rattle.std.specs.Io.KnownBytes.{WriteAppends};
 ghost use Rattle.outside.specs.Faults.{HasCause};
 ghost use Rattle.outside.specs.Files.{HasFileCause, ReadsHeld};
 ghost use Rattle.outside.specs.Sinks.{TakesSome};
-ghost use Rattle.outside.specs.Memory.{held_by, IsMissing, IsRefusing, room_left, counted};
+ghost use Rattle.outside.specs.Memory.{held_by, RefusesReading, RefusesWrite, room_left, counted};
 
 use crate::files::{FileFault, Files};
 use crate::sink::{Sink, SinkFault};
@@ -92,7 +92,7 @@ impl Model for MemFiles {
 
     ghost Value = { MemoryFiles };
 
-    ghost view = { λ s. record { files = s.files.items; failing = s.failing.items; calls = s.calls; faults = s.faults } };
+    ghost view = { λ held. record { files = held.files.items; failing = held.failing.items; calls = held.calls; faults = held.faults } };
 }
 
 impl MemFiles {
@@ -161,7 +161,7 @@ impl Files for MemFiles {
         ensures cause { HasFileCause (λ _. self.old.faults) (λ _. self.new.faults) name.now result }
 
         // Files in memory fail at the calls that are to fail, and at names that are not held.
-        ensures refused { result ≡ Err FileFault.Failed ↔ IsMissing self.old name.now }
+        ensures refused { result ≡ Err FileFault.Failed ↔ RefusesReading self.old name.now }
         ensures counted { result ≡ Err FileFault.Failed
             → self.new.faults ≡ counted self.old.faults }
         ensures numbered { self.new.calls ≡ counted self.old.calls }
@@ -192,7 +192,7 @@ impl Model for SureFiles {
 
     ghost Value = { List NamedFile };
 
-    ghost view = { λ s. s.files.items };
+    ghost view = { λ held. held.files.items };
 }
 
 impl SureFiles {
@@ -303,7 +303,7 @@ impl Sink for MemSink {
 
         // A sink in memory takes as much as it has room for.
         ensures as_much { IfOk result (λ count. count ≡ min (length bytes.now) (room_left self.old)) }
-        ensures refused { 0 < length bytes.now → (IsErr result ↔ IsRefusing self.old) }
+        ensures refused { 0 < length bytes.now → (IsErr result ↔ RefusesWrite self.old) }
         ensures counted { OnErr result (self.new.faults ≡ counted self.old.faults) }
         ensures unnumbered { length bytes.now ≡ 0 → self.new.calls ≡ self.old.calls }
         ensures numbered { 0 < length bytes.now → self.new.calls ≡ counted self.old.calls }

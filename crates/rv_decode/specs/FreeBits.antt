@@ -1,7 +1,7 @@
 -- What is written where the rows leave bits free: RISC-V Unprivileged ISA, chapter "RV32I Base Integer Instruction Set", section "Memory Ordering Instructions" (FENCE with all predecessors and successors), and chapter "A" extension (aq and rl).
 use Rattle.std.specs.Prelude.{◌≡◌, ℕ}
 use Rattle.rv_decode.specs.declared.insn.Insn.{Insn}
-use Rattle.rv_decode.specs.declared.insn.Insn.TheVariants.{Lui, Auipc, Jal, Jalr, Branch, Load, Store, Imm, Reg, Fence, Ecall, Ebreak, Lr, Sc, Amo}
+use Rattle.rv_decode.specs.declared.insn.Insn.TheVariants.{Fence, Lr, Sc, Amo}
 use Rattle.rv_decode.specs.Fields.{inst}
 
 -- a fence is `fence iorw, iorw`, and an atomic instruction has neither aq nor rl

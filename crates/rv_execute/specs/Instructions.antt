@@ -57,6 +57,15 @@ asked h (Lr rd rs1) = ask_access 4 (reg h rs1) LoadMisaligned Read
 asked h (Sc rd rs1 rs2) = ask_access 4 (reg h rs1) StoreMisaligned (BySc (asked_number h.kept (reg h rs1)) (reg h rs2))
 asked h (Amo kind rd rs1 rs2) = ask_access 4 (reg h rs1) StoreMisaligned (ByAmo kind (reg h rs2))
 
+-- what was asked is answered by this: nothing by nothing, and an access by what it found
+abbrev pub IsFinishedBy : Ask → Option Taken → Type 0
+IsFinishedBy Quiet None = Unit {0}
+IsFinishedBy Quiet (Some t) = ⊥
+IsFinishedBy (Touch addr op) None = ⊥
+IsFinishedBy (Touch addr op) (Some t) = Unit {0}
+IsFinishedBy Environment t = ⊥
+IsFinishedBy (Faulted fault) t = ⊥
+
 -- the number and the word that an access found
 abbrev pub number_of : Option Taken → ℕ
 number_of None = 0

@@ -1,3 +1,6 @@
+ghost use Rattle.std.specs.Prelude.{◌≡◌};
+ghost use Rattle.rv_execute.specs.Faults.{fault_number};
+
 /// Why a hart stops at an instruction.
 #[derive(Clone, Copy, Debug, PartialEq, Eq)]
 pub enum Fault {
@@ -19,4 +22,23 @@ pub enum Fault {
     StoreReadOnly,
     /// EBREAK.
     Break,
+}
+
+impl Fault {
+    /// The number that stands for the fault in a report, from 1 to 9.
+    pub fn number(self) -> u8
+        ensures { result ≡ fault_number self }
+    {
+        match self {
+            Fault::Illegal => 1,
+            Fault::FetchMisaligned => 2,
+            Fault::FetchOutside => 3,
+            Fault::LoadMisaligned => 4,
+            Fault::LoadOutside => 5,
+            Fault::StoreMisaligned => 6,
+            Fault::StoreOutside => 7,
+            Fault::StoreReadOnly => 8,
+            Fault::Break => 9,
+        }
+    }
 }

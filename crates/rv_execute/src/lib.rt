@@ -1,12 +1,20 @@
 //! What one instruction of RV32IMA asks of memory and does to its hart.
 #![tactic(auto)]
 
+mod alu;
 mod ask;
 mod fault;
+mod finish;
 mod hart;
+mod lanes;
 mod op;
+mod payload;
+mod start;
 
 pub use ask::Ask;
 pub use fault::Fault;
+pub use finish::resume;
 pub use hart::Hart;
 pub use op::{NO_NUMBER, Op, Taken};
+pub use payload::apply;
+pub use start::begin;

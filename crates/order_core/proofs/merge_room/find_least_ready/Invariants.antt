@@ -2,7 +2,7 @@ use Rattle.std.proofs.Common.{◌≡◌, None}
 use Rattle.order_core.specs.Logs.{logs_of}
 use Rattle.order_core.specs.CanonicalMerge.{least_ready}
 use Rattle.order_core.specs.Places.{left_at, reached_at}
-use Rattle.order_core.proofs.merge.find_least_ready.Given as goal
+use Rattle.order_core.proofs.merge_room.find_least_ready.Given as goal
 
 -- no core below is ready
 abbrev pub invariant-loop-core : goal.invariant-loop-core

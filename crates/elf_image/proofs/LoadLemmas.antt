@@ -1,0 +1,133 @@
+-- Lemmas on what loading makes of an accepted file: its first fault, and the memory of its layout.
+use Rattle.std.proofs.Common.{◌≡◌, ℕ, ◌+◌, ◌*◌, ◌/◌, ◌%◌, ◌<◌, ◌≤◌, List, length, map, filter, get_or, Option, Some, None, Bool, true, false, not, ◌||◌, nat_eq, nat_lt, if◌then◌else◌, refl, sym, ◌∙◌, ap, subst, arith}
+use Rattle.std.specs.List.{list_any, range_with_len}
+use Rattle.std.proofs.lemmas.Bool.{lt-ltb, le-ltb, ltb-false, or_parts}
+use Rattle.std.proofs.lemmas.List.{length-map, get_or_default}
+use Rattle.std.proofs.lemmas.List.FromFn.{length-map-range_with_len}
+use Rattle.std.proofs.lemmas.List.Sums.{length-filter, count_by-le-length}
+use Rattle.elf_image.specs.Elf.{entry_address, header_at, program_headers, segment_of, segments, segments_of, table_entries, table_offset, takes_memory}
+use Rattle.elf_image.specs.ImageFault.{first_fault, file_tests, header_tests, map_tests, image_fault, has_bad_table, has_bad_entry, is_too_large, passes_limit, address_limit}
+use Rattle.elf_image.specs.Layout.{Layout, layout_of, all_pages, count_below, nth_from, address_of, break_page, end_of_heap, entry_of, executes, is_executable_page, is_mapped, is_writable_page, loaded_word, maps, page_of, word_at}
+use Rattle.elf_image.specs.Memory.{IsMemoryOf, IsReadFrom, page_of_layout}
+use Rattle.elf_image.specs.PageTable.{IsContents, IsTableBelow, IsTableOf}
+use Rattle.elf_image.proofs.Counting.{count_from-zero, nth_from-count}
+use Rattle.elf_image.proofs.FaultLemmas.{first_fault-some, first_fault-skip, header-table}
+use Rattle.elf_image.specs.declared.fault.ImageFault.{ImageFault}
+use Rattle.elf_image.specs.declared.fault.ImageFault.TheVariants.{TooLarge, Entry}
+use Rattle.elf_image.specs.declared.segments.Segment.{Segment}
+use Rattle.elf_image.specs.declared.page_table.Page.{Page}
+
+-- a fault of the file by itself is that of the image
+pub image-file : (bytes : List ℕ) (cores stack heap : ℕ) (fault : ImageFault) → first_fault (file_tests bytes heap) ≡ Some fault → image_fault bytes cores stack heap ≡ Some fault
+unfolding image_fault
+image-file bytes cores stack heap fault found =
+    first_fault-some (file_tests bytes heap) (map_tests (layout_of bytes cores stack heap)) fault found
+
+-- else the memory map says
+image-map : (bytes : List ℕ) (cores stack heap : ℕ) → first_fault (file_tests bytes heap) ≡ None → image_fault bytes cores stack heap ≡ first_fault (map_tests (layout_of bytes cores stack heap))
+unfolding image_fault
+image-map bytes cores stack heap none =
+    first_fault-skip (file_tests bytes heap) (map_tests (layout_of bytes cores stack heap)) none
+
+-- the mapped and the executable pages by the segments
+mapped-segments : (bytes : List ℕ) (cores stack heap : ℕ) (loaded : List Segment) → loaded ≡ segments bytes → is_mapped (layout_of bytes cores stack heap) ≡ maps loaded cores stack heap
+unfolding is_mapped
+mapped-segments bytes cores stack heap loaded same = ap (λ (ls : List Segment). maps ls cores stack heap) (sym same)
+
+executable-segments : (bytes : List ℕ) (cores stack heap page : ℕ) (loaded : List Segment) → loaded ≡ segments bytes → is_executable_page (layout_of bytes cores stack heap) page ≡ executes loaded page
+unfolding is_executable_page
+executable-segments bytes cores stack heap page loaded same = ap (λ (ls : List Segment). executes ls page) (sym same)
+
+-- too many mapped pages
+pub image-too_large : (bytes : List ℕ) (cores stack heap : ℕ) (loaded : List Segment) → first_fault (file_tests bytes heap) ≡ None → loaded ≡ segments bytes → 4096 < count_below (maps loaded cores stack heap) all_pages → image_fault bytes cores stack heap ≡ Some TooLarge
+image-too_large bytes cores stack heap loaded none same many =
+    let large : is_too_large (layout_of bytes cores stack heap) ≡ true =
+    ap (λ (set : ℕ → Bool). nat_lt 4096 (count_below set all_pages)) (mapped-segments bytes cores stack heap loaded same)
+    ∙ lt-ltb _ _ many in
+    image-map bytes cores stack heap none ∙ rw large refl
+
+-- few mapped pages, so that the entry says
+pub image-entry : (bytes : List ℕ) (cores stack heap entry : ℕ) (loaded : List Segment) (found : Option ImageFault) → first_fault (file_tests bytes heap) ≡ None → loaded ≡ segments bytes → count_below (maps loaded cores stack heap) all_pages ≤ 4096 → entry ≡ entry_address bytes → found ≡ (if not (nat_eq (entry % 4) 0) || not (executes loaded (entry / 4096)) then Some Entry else None) → image_fault bytes cores stack heap ≡ found
+image-entry bytes cores stack heap entry loaded found none same few at answer =
+    let small : is_too_large (layout_of bytes cores stack heap) ≡ false =
+    ap (λ (set : ℕ → Bool). nat_lt 4096 (count_below set all_pages)) (mapped-segments bytes cores stack heap loaded same)
+    ∙ le-ltb _ _ few in
+    let bad : has_bad_entry (layout_of bytes cores stack heap) ≡ (not (nat_eq (entry % 4) 0) || not (executes loaded (entry / 4096))) =
+    ap (λ n. not (nat_eq (n % 4) 0) || not (is_executable_page (layout_of bytes cores stack heap) (n / 4096))) (sym at)
+    ∙ ap (λ (b : Bool). not (nat_eq (entry % 4) 0) || not b) (executable-segments bytes cores stack heap (entry / 4096) loaded same) in
+    image-map bytes cores stack heap none ∙ rw (small, bad) (sym answer)
+
+-- at most as many segments as headers, of which there are few
+pub segments-few : (bytes : List ℕ) → first_fault (header_tests bytes) ≡ None → length (segments bytes) ≤ 64
+unfolding segments program_headers
+segments-few bytes none =
+    let good = or_parts (nat_lt 64 (table_entries bytes)) _ (header-table bytes none) in
+    let few : table_entries bytes ≤ 64 = ltb-false _ _ good.0 in
+    let all : length (program_headers bytes) ≡ table_entries bytes =
+    length-map-range_with_len (λ k. header_at bytes (table_offset bytes + 32 * k)) 0 (table_entries bytes) in
+    let some = count_by-le-length takes_memory (program_headers bytes) in
+    rw (length-map (filter takes_memory (program_headers bytes)) segment_of, length-filter takes_memory (program_headers bytes)) (omega (arith, all, some, few))
+
+-- each mapped page of a table is a page
+pub mapped-low : (set : ℕ → Bool) (entry : ℕ → ℕ → Option Page) (pages : List (Option Page)) (mapped xs : List ℕ) → IsTableBelow set entry pages mapped 1048576 → xs ≡ mapped → (k d : ℕ) → k < length xs → get_or xs k d < 1048576
+mapped-low set entry pages mapped xs table same k d low =
+    let size : length xs ≡ length mapped = ap length same in
+    let inside : k < length mapped = omega arith in
+    let member = table.members k inside in
+    rw (same, get_or_default mapped k d 0 inside) member.below
+
+-- the k-th mapped page is the one with k mapped pages below it
+mapped-place : (set : ℕ → Bool) (entry : ℕ → ℕ → Option Page) (pages : List (Option Page)) (mapped : List ℕ) → IsTableBelow set entry pages mapped 1048576 → (k : ℕ) → k < length mapped → nth_from set 1048576 0 k ≡ get_or mapped k 0
+mapped-place set entry pages mapped table k low =
+    let member = table.members k low in
+    let below : get_or mapped k 0 < 1048576 = member.below in
+    nth_from-count set 1048576 0 k (get_or mapped k 0) (omega arith) (omega arith) member.in_set (count_from-zero set k ∙ sym member.at_place)
+
+-- the table and the words of the segments are those of the layout
+memory-at : (bytes : List ℕ) (cores stack heap : ℕ) (pages : List (Option Page)) (mapped words : List ℕ) → IsTableOf (segments bytes) cores stack heap pages mapped → length mapped ≤ 4096 → IsContents (loaded_word bytes (segments bytes)) mapped words (length mapped) → IsMemoryOf (layout_of bytes cores stack heap) pages words
+unfolding is_mapped is_writable_page is_executable_page page_of_layout word_at address_of
+memory-at bytes cores stack heap pages mapped words table small contents = record {
+  few = subst (λ n. n ≤ 4096) table.counted small;
+  table_size = table.size;
+  entries = table.entries;
+  words_size = contents.size ∙ ap (λ n. 1024 * n) table.counted;
+  items = λ k d low.
+      let size : length words ≡ 1024 * length mapped = contents.size in
+      let inside : k / 1024 < length mapped = omega arith in
+      get_or_default words k d 0 low
+      ∙ contents.items k low
+      ∙ ap (λ n. loaded_word bytes (segments bytes) (4096 * n + 4 * (k % 1024))) (sym (mapped-place _ _ pages mapped table (k / 1024) inside));
+}
+
+pub memory-from : (bytes : List ℕ) (cores stack heap : ℕ) (loaded : List Segment) (pages : List (Option Page)) (mapped words : List ℕ) → loaded ≡ segments bytes → IsTableOf loaded cores stack heap pages mapped → length mapped ≤ 4096 → IsContents (loaded_word bytes loaded) mapped words (length mapped) → IsMemoryOf (layout_of bytes cores stack heap) pages words
+memory-from bytes cores stack heap loaded pages mapped words same table small contents =
+    memory-at bytes cores stack heap pages mapped words
+    (subst (λ (ls : List Segment). IsTableOf ls cores stack heap pages mapped) same table)
+    small
+    (subst (λ (ls : List Segment). IsContents (loaded_word bytes ls) mapped words (length mapped)) same contents)
+
+-- what is read off the file once
+pub read-from : (bytes : List ℕ) (cores stack heap first entry : ℕ) (loaded : List Segment) → loaded ≡ segments bytes → length loaded ≤ 64 → list_any passes_limit loaded ≡ false → first ≡ break_page loaded → end_of_heap loaded heap ≤ address_limit → entry ≡ entry_address bytes → IsReadFrom (layout_of bytes cores stack heap) loaded (4096 * first) entry
+unfolding entry_of
+read-from bytes cores stack heap first entry loaded same few ends at low from = record {
+  loaded_is = same;
+  few_segments = few;
+  ends = ends;
+  base_is = ap (λ n. 4096 * n) (at ∙ ap break_page same);
+  heap_low = subst (λ (ls : List Segment). end_of_heap ls heap ≤ address_limit) same low;
+  entry_is = from;
+}
+
+-- a table that lists few mapped pages counts few
+pub table-few : (set : ℕ → Bool) (entry : ℕ → ℕ → Option Page) (pages : List (Option Page)) (mapped : List ℕ) {size : ℕ} → IsTableBelow set entry pages mapped 1048576 → length mapped ≡ size → size ≤ 4096 → count_below set 1048576 ≤ 4096
+table-few set entry pages mapped table same small = rw (← table.counted, same) small
+
+-- the test of the entry, and what the words are, at equal lists
+pub at_segments : (entry : ℕ) (one other : List Segment) → one ≡ other → (if not (nat_eq (entry % 4) 0) || not (executes one (entry / 4096)) then Some Entry else None) ≡ (if not (nat_eq (entry % 4) 0) || not (executes other (entry / 4096)) then Some Entry else None)
+at_segments entry one other same =
+    ap (λ (loaded : List Segment). if not (nat_eq (entry % 4) 0) || not (executes loaded (entry / 4096)) then Some Entry else None) same
+
+pub contents-at : (bytes : List ℕ) (one other : List Segment) (xs mapped words : List ℕ) → one ≡ other → xs ≡ mapped → IsContents (loaded_word bytes one) xs words (length xs) → IsContents (loaded_word bytes other) mapped words (length mapped)
+contents-at bytes one other xs mapped words same listed contents =
+    subst (λ (loaded : List Segment). IsContents (loaded_word bytes loaded) mapped words (length mapped)) same
+    (subst (λ (pages : List ℕ). IsContents (loaded_word bytes one) pages words (length pages)) listed contents)

@@ -1,0 +1,56 @@
+-- Each refusal is the first fault of the file, and what is kept of an accepted file is its layout's.
+use Rattle.std.proofs.Common.{◌≡◌, ◌≤◌, List, length, subst, Some, None, sym, ◌∙◌, ap, arith}
+use Rattle.std.proofs.lemmas.Result.{err_from_is_err_and}
+use Rattle.elf_image.specs.Layout.{all_pages, break_page, count_below, maps}
+use Rattle.elf_image.specs.PageTable.{IsTableOf}
+use Rattle.elf_image.specs.declared.segments.Segment.{Segment}
+use Rattle.elf_image.proofs.LoadLemmas.{at_segments, contents-at, image-file, image-too_large, image-entry, mapped-low, memory-from, read-from, table-few}
+use Rattle.elf_image.proofs.memory_image.load.Goals as goal
+
+pub returns-in_err-segments-clause-refused : goal.returns-in_err-segments-clause-refused
+returns-in_err-segments-clause-refused c =
+    let p = err_from_is_err_and c.from_residual.result c.from_residual.ensures.1 in
+    rw (p.1, p.2)
+    (λ other. image-file c.args.bytes.now c.args.cores c.args.stack c.args.heap c.in_err-segments.field-0.0 (c.in_err-segments.ensures.refused other))
+
+pub returns-in_err-table-clause-refused : goal.returns-in_err-table-clause-refused
+returns-in_err-table-clause-refused c =
+    let p = err_from_is_err_and c.from_residual-in_err-table.result c.from_residual-in_err-table.ensures.1 in
+    rw (p.1, p.2)
+    (λ other.
+    let large = c.in_err-table.ensures.refused other in
+    image-too_large c.args.bytes.now c.args.cores c.args.stack c.args.heap c.deref.result.now c.in_ok-segments.ensures.accepted (c.deref.ensures.value ∙ c.in_ok-segments.ensures.segments) large.1
+    ∙ ap Some (sym large.0))
+
+pub returns-in_err-check_entry-clause-refused : goal.returns-in_err-check_entry-clause-refused
+returns-in_err-check_entry-clause-refused c =
+    let p = err_from_is_err_and c.from_residual-in_err-check_entry.result c.from_residual-in_err-check_entry.ensures.1 in
+    let few : count_below (maps c.deref.result.now c.args.cores c.args.stack c.args.heap) all_pages ≤ 4096 =
+    table-few _ _ _ _ c.in_ok-table.ensures.table (sym c.in_ok-table.table.mapped.ok.0) c.in_ok-table.ensures.few in
+    rw (p.1, p.2)
+    (λ _.
+    image-entry c.args.bytes.now c.args.cores c.args.stack c.args.heap c.entry_address-entry.result c.deref.result.now (Some c.in_err-check_entry.field-0.0) c.in_ok-segments.ensures.accepted (c.deref.ensures.value ∙ c.in_ok-segments.ensures.segments) few c.entry_address-entry.ensures (c.in_err-check_entry.ensures ∙ at_segments c.entry_address-entry.result c.deref-2.result.now c.deref.result.now (c.deref-2.ensures.value ∙ sym c.deref.ensures.value)))
+
+pub first_words-requires-clause-low : goal.first_words-requires-clause-low
+first_words-requires-clause-low c =
+    mapped-low _ _ _ _ c.deref-4.result.now c.in_ok-table.ensures.table c.deref-4.ensures.value
+
+pub invariant_of-result : goal.invariant_of-result
+invariant_of-result c =
+    let table =
+    subst (λ (loaded : List Segment). IsTableOf loaded c.args.cores c.args.stack c.args.heap c.in_ok-table.table.pages.items c.in_ok-table.table.mapped.items) c.deref.ensures.value c.in_ok-table.ensures.table in
+    let few : length c.in_ok-table.table.mapped.items ≤ 4096 =
+    subst (λ n. n ≤ 4096) c.in_ok-table.table.mapped.ok.0 c.in_ok-table.ensures.few in
+    let contents =
+    contents-at c.args.bytes.now c.deref-3.result.now c.in_ok-segments.segments.items c.deref-4.result.now c.in_ok-table.table.mapped.items c.in_ok-words.words.items c.deref-3.ensures.value c.deref-4.ensures.value c.in_ok-words.ensures in
+    let first = c.break_page.ensures ∙ ap break_page c.deref-5.ensures.value in
+    rw c.in_ok-kept.ensures.items (
+      memory-from c.args.bytes.now c.args.cores c.args.stack c.args.heap c.in_ok-segments.segments.items c.in_ok-table.table.pages.items c.in_ok-table.table.mapped.items c.in_ok-words.words.items c.in_ok-segments.ensures.segments table few contents,
+      read-from c.args.bytes.now c.args.cores c.args.stack c.args.heap c.break_page.result c.entry_address-entry.result c.in_ok-segments.segments.items c.in_ok-segments.ensures.segments c.in_ok-segments.ensures.few c.in_ok-segments.ensures.ends first c.in_ok-segments.ensures.heap_end c.entry_address-entry.ensures,
+    )
+
+pub returns-clause-accepted : goal.returns-clause-accepted
+returns-clause-accepted c =
+    let few : count_below (maps c.deref.result.now c.args.cores c.args.stack c.args.heap) all_pages ≤ 4096 =
+    table-few _ _ _ _ c.in_ok-table.ensures.table (sym c.in_ok-table.table.mapped.ok.0) c.in_ok-table.ensures.few in
+    image-entry c.args.bytes.now c.args.cores c.args.stack c.args.heap c.entry_address-entry.result c.deref.result.now None c.in_ok-segments.ensures.accepted (c.deref.ensures.value ∙ c.in_ok-segments.ensures.segments) few c.entry_address-entry.ensures (c.in_ok-check_entry.ensures ∙ at_segments c.entry_address-entry.result c.deref-2.result.now c.deref.result.now (c.deref-2.ensures.value ∙ sym c.deref.ensures.value))

@@ -1,0 +1,36 @@
+-- What a loaded image keeps of its layout: the table of pages, the first words, and what is read off the file once.
+use Rattle.std.specs.Prelude.{◌≡◌, ℕ, ◌+◌, ◌*◌, ◌<◌, ◌≤◌, List, length, slice_index_or, Option, Some, None, Bool, false, if◌then◌else◌}
+use Rattle.std.specs.List.{list_any}
+use Rattle.elf_image.specs.Elf.{segments}
+use Rattle.elf_image.specs.Layout.{Layout, is_mapped, is_writable_page, is_executable_page, count_below, all_pages, word_at, address_of, break_base, heap_end, entry_of}
+use Rattle.elf_image.specs.ImageFault.{address_limit, passes_limit}
+use Rattle.elf_image.specs.declared.segments.Segment.{Segment}
+use Rattle.elf_image.specs.declared.page_table.Page.{Page}
+
+-- the entry of a page in the table
+unfoldable pub page_of_layout : Layout → ℕ → Option Page
+page_of_layout layout page =
+    if is_mapped layout page
+    then Some (record {
+      place = count_below (is_mapped layout) page;
+      writable = is_writable_page layout page;
+      executable = is_executable_page layout page;
+    })
+    else None
+
+-- the table of pages and the first words of a layout of at most 4,096 mapped pages
+pub record IsMemoryOf (layout : Layout) (pages : List (Option Page)) (words : List ℕ) : Type 0 where
+  pub few : count_below (is_mapped layout) all_pages ≤ 4096
+  pub table_size : length pages ≡ all_pages
+  pub entries : (page : ℕ) (d : Option Page) → page < all_pages → slice_index_or pages page d ≡ page_of_layout layout page
+  pub words_size : length words ≡ 1024 * count_below (is_mapped layout) all_pages
+  pub items : (k d : ℕ) → k < length words → slice_index_or words k d ≡ word_at layout (address_of layout k)
+
+-- the segments of a layout, none of which passes the limit, and the addresses that are kept
+pub record IsReadFrom (layout : Layout) (loaded : List Segment) (base entry : ℕ) : Type 0 where
+  pub loaded_is : loaded ≡ segments layout.bytes
+  pub few_segments : length loaded ≤ 64
+  pub ends : list_any passes_limit loaded ≡ false
+  pub base_is : base ≡ break_base layout
+  pub heap_low : heap_end layout ≤ address_limit
+  pub entry_is : entry ≡ entry_of layout

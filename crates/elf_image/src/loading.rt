@@ -1,0 +1,77 @@
+//! The tests of a file in their order, and what is kept of one that passes them.
+ghost use Rattle.std.specs.Prelude.{◌≡◌, ◌≢◌, ◌+◌, ◌/◌, ◌%◌, ◌<◌, ◌≤◌, ◌||◌, ◌==◌, not, false, if◌then◌else◌, IfOk, IfErr, OnOk, Some, None, length, vec_len};
+ghost use Rattle.std.specs.List.{list_any};
+ghost use Rattle.std.specs.Result.{result_err};
+ghost use Rattle.elf_image.specs.Elf.{segments};
+ghost use Rattle.elf_image.specs.Layout.{all_pages, count_below, end_of_heap, executes, maps};
+ghost use Rattle.elf_image.specs.ImageFault.{address_limit, file_tests, first_fault, passes_limit};
+ghost use Rattle.elf_image.specs.PageTable.{IsTableOf};
+
+use crate::fault::ImageFault;
+use crate::headers::read_headers;
+use crate::page_table::{DataPages, PageTable, any_executable, page_table};
+use crate::segments::{Segment, break_page, loaded_segments};
+use crate::validation::{check_header, check_identification, check_segments};
+use std::alloc::Global;
+
+/// The mapped pages that an image has at most.
+const MOST_PAGES: usize = 4096;
+
+/// The segments of a file that passes all tests of the file by itself.
+pub fn accepted_segments(alloc: Global, bytes: &[u8], heap: u32) -> Result<Vec<Segment>, ImageFault>
+    ensures segments { IfOk result (λ loaded. loaded.items ≡ segments bytes.now) }
+    ensures accepted { OnOk result (first_fault (file_tests bytes.now heap) ≡ None) }
+    ensures refused { IfErr result (λ fault. fault ≢ ImageFault.NoMemory → first_fault (file_tests bytes.now heap) ≡ Some fault) }
+    ensures long { OnOk result (52 ≤ length bytes.now) }
+    ensures few { IfOk result (λ loaded. length loaded.items ≤ 64) }
+    ensures ends { IfOk result (λ loaded. list_any passes_limit loaded.items ≡ false) }
+    ensures heap_end { IfOk result (λ loaded. end_of_heap loaded.items heap ≤ address_limit) }
+{
+    check_identification(bytes)?;
+    check_header(bytes)?;
+    let headers = read_headers(alloc, bytes)?;
+    let segments = loaded_segments(alloc, &headers)?;
+    check_segments(bytes.len(), &headers, &segments, heap)?;
+    Ok(segments)
+}
+
+/// The table of pages of at most so many mapped pages as the machine has.
+pub fn map_memory(
+    alloc: Global,
+    segments: &[Segment],
+    cores: u8,
+    stack: u32,
+    heap: u32,
+) -> Result<PageTable, ImageFault>
+    requires cores { cores ≤ 8 }
+    requires stack { stack ≤ 4096 }
+    requires heap_end { end_of_heap segments.now heap ≤ address_limit }
+    ensures table { IfOk result (λ table. IsTableOf segments.now cores stack heap table.pages.items table.mapped.items) }
+    ensures few { IfOk result (λ table. vec_len table.mapped ≤ 4096) }
+    ensures refused { IfErr result (λ fault. fault ≢ ImageFault.NoMemory → (fault ≡ ImageFault.TooLarge) × (4096 < count_below (maps segments.now cores stack heap) all_pages)) }
+{
+    let regions = DataPages {
+        first: break_page(segments) as u32,
+        heap,
+        cores,
+        stack,
+    };
+    let table = page_table(alloc, segments, regions)?;
+    if table.mapped.len() > MOST_PAGES {
+        return Err(ImageFault::TooLarge);
+    }
+    Ok(table)
+}
+
+/// Refuses an entry that is not a multiple of 4 or not on an executable page.
+pub fn check_entry(entry: u32, segments: &[Segment]) -> Result<(), ImageFault>
+    ensures { result_err result ≡ (if not (entry % 4 == 0) || not (executes segments.now (entry / 4096)) then Some ImageFault.Entry else None) }
+{
+    if entry % 4 != 0 {
+        Err(ImageFault::Entry)
+    } else if any_executable(segments, entry / 4096) {
+        Ok(())
+    } else {
+        Err(ImageFault::Entry)
+    }
+}
