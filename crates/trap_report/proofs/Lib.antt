@@ -1,2 +1,5 @@
 pub mod LineLemmas
+pub mod PieceLemmas
+pub mod RunLemmas
+pub mod WriteLemmas
 mod Rows

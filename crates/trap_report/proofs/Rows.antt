@@ -13,7 +13,7 @@ use Rattle.machine.specs.Steps.{core_given, touched, quiet, took, left, step}
 use Rattle.machine.specs.Runs.{run, entries_from}
 use Rattle.machine.proofs.Images.{image_of, hi_words}
 use Rattle.trap_report.specs.Lines.{hex}
-use Rattle.trap_report.specs.Text.{text}
+use Rattle.trap_report.specs.Text.{text, report_of}
 
 abbrev hi : Setup
 hi = record {
@@ -65,5 +65,5 @@ record Worked : Type 0 where
   hex_count : hex 4 10 ≡ codes "000a"
 
 worked : Worked
-unfolding program_headers segments is_mapped is_writable_page is_executable_page count_below nth_from word_of is_writable word_at address_of first_word fetched entry_of run step touched quiet took left core_given next_ask answered unit_record placed task_of opening_local asked resumed tags_after word_tag reply_of entries_from digits hex text
+unfolding program_headers segments is_mapped is_writable_page is_executable_page count_below nth_from word_of is_writable word_at address_of first_word fetched entry_of run step touched quiet took left core_given next_ask answered unit_record placed task_of opening_local asked resumed tags_after word_tag reply_of entries_from digits hex text report_of
 worked = record { size = refl; hi_text = refl; hex_digits = refl; hex_count = refl }

@@ -66,9 +66,12 @@ abbrev pub verdict_name : Bool → List ℕ
 verdict_name false = codes "go"
 verdict_name true = codes "stop"
 
+-- what the reply was to a call
+abbrev pub reply_fields : CallNote → List (List ℕ)
+reply_fields note = decimal note.call ∷ hex 32 note.tags ∷ hex 1 note.buffer ∷ verdict_name note.stop ∷ []
+
 abbrev pub note_line : ℕ → CallNote → List ℕ
-note_line core note = line (decimal core) (decimal note.step ∷ hex 8 note.pc ∷ kind_name note.kind ∷ decimal note.call
-    ∷ hex 32 note.tags ∷ hex 1 note.buffer ∷ verdict_name note.stop ∷ [])
+note_line core note = line (decimal core) (decimal note.step ∷ hex 8 note.pc ∷ kind_name note.kind ∷ reply_fields note)
 
 abbrev pub note_lines : ℕ → Summary → List ℕ
 note_lines core summary = flat_map (note_line core) summary.notes
@@ -108,7 +111,7 @@ report_text report =
 abbrev pub numbers_of : Setup → Numbers
 numbers_of s = record { cores = cores_of s; budget = s.budget; limit = s.limit; stack = s.program.layout.stack; heap = s.program.layout.heap }
 
-abbrev pub report_of : Setup → List ℕ → Report
+unfoldable pub report_of : Setup → List ℕ → Report
 report_of s order = record { numbers = numbers_of s; units = entries s order; cores = summaries s (along s order) }
 
 unfoldable pub text : Setup → List ℕ → List ℕ

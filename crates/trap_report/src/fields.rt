@@ -1,7 +1,7 @@
 //! The lines of a report, each from what it tells.
-ghost use Rattle.std.specs.Prelude.{◌≡◌, ◌≤◌, [], length, Some};
-ghost use Rattle.trap_report.specs.Lines.{line as line_of};
-ghost use Rattle.trap_report.specs.Text.{counted, kind_name, verdict_name, unit_line, note_line, trap_line, end_line};
+ghost use Rattle.std.specs.Prelude.{◌≡◌, ◌≤◌, [], ◌++◌, length, Some};
+ghost use Rattle.trap_report.specs.Lines.{line as line_of, rest_of_line};
+ghost use Rattle.trap_report.specs.Text.{counted, kind_name, reply_fields, verdict_name, unit_line, note_line, trap_line, end_line};
 
 use crate::line::Line;
 use order_core::Entry;
@@ -55,12 +55,20 @@ pub fn note_line(core: u8, note: &CallNote) -> Line
     line.number_field(note.step);
     line.hex_field(u128::from(note.pc), 8);
     line.text_field(kind_name(note.kind));
+    end_note(&mut line, note);
+    line
+}
+
+// The fields of a note from the number of its call on.
+fn end_note(line: &mut Line, note: &CallNote)
+    requires { length line.old ≤ 40 }
+    ensures { line.new ≡ line.old ++ rest_of_line (reply_fields note.now) }
+{
     line.number_field(note.call);
     line.hex_field(note.tags, 32);
     line.hex_field(u128::from(note.buffer), 1);
     line.text_field(verdict_name(note.stop));
     line.end();
-    line
 }
 
 /// The trap of a core, or nothing where it has none.

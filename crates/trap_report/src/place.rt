@@ -19,10 +19,7 @@ pub enum Place {
     /// The unit at this place of the order, or, past the last one, the count of notes.
     UnitAt(usize),
     /// The note at a place of a core's notes, or, past the last core, the count of traps.
-    NoteAt {
-        core: u8,
-        note: usize,
-    },
+    NoteAt { core: u8, note: usize },
     /// The trap of this core, or, past the last core, the count of ends.
     TrapOf(u8),
     /// The end of this core, or, past the last core, the report's last line.
