@@ -3,3 +3,9 @@ pub mod Buffers
 pub mod Calls
 pub mod Tasks
 pub mod Local
+pub mod Made
+pub mod Sound
+pub mod SoundProps
+pub mod Built
+pub mod LocalCores
+pub mod Cores

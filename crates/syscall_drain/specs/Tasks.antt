@@ -16,6 +16,8 @@ use Rattle.syscall_drain.specs.Programs.{Program}
 use Rattle.syscall_drain.specs.Buffers.{word_address, fill, buffer_mask}
 use Rattle.syscall_drain.specs.Calls.{first_argument, buffer_start, byte_count}
 use Rattle.syscall_drain.specs.declared.end.End.{End}
+pub use Rattle.syscall_drain.specs.declared.task.Task.{Task}
+pub use Rattle.syscall_drain.specs.declared.task.Task.TheVariants.{Over, Blanked, Faulted, Plain, Access, Decide, Judge, Claim, Fill, Gather, Return}
 use Rattle.syscall_drain.specs.declared.phase.Phase.{Phase}
 use Rattle.syscall_drain.specs.declared.phase.Phase.TheVariants.{Running, ClaimInput, Storing, Gathering, Judging, ClaimOutput, ClaimBreak, Returning}
 
@@ -32,24 +34,6 @@ opening_hart layout core = record { regs = first_registers layout core; pc = ent
 
 unfoldable pub opening_local : Program → ℕ → Local
 opening_local program core = record { hart = opening_hart program.layout core; phase = Running; gathered = []; units = 0; ending = None }
-
-pub data Task : Type 0 where
-  -- none: the core has ended
-  Over : Task
-  -- a fault before an instruction is known or used, and one of an instruction
-  Blanked : Fault → Task
-  Faulted : Fault → Insn → Task
-  -- an instruction without an access, and one with an access to a word
-  Plain : Insn → Task
-  Access : Insn → ℕ → Op → Task
-  -- the two meetings
-  Decide : Task
-  Judge : Task
-  -- a claim on a device word, a store of a read call with whether it is whole, a read of a write call, and a return with a result
-  Claim : ℕ → Op → Task
-  Fill : ℕ → Op → Bool → Task
-  Gather : ℕ → Task
-  Return : ℕ → Task
 
 -- the fault of an access outside the mapped pages: LR counts as a load
 abbrev pub outside_fault : Insn → Fault
