@@ -1,6 +1,7 @@
 -- Lemmas on what loading makes of an accepted file: its first fault, and the memory of its layout.
 use Rattle.std.proofs.Common.{◌≡◌, ℕ, ◌+◌, ◌*◌, ◌/◌, ◌%◌, ◌<◌, ◌≤◌, List, length, map, filter, get_or, Option, Some, None, Bool, true, false, not, ◌||◌, nat_eq, nat_lt, if◌then◌else◌, refl, sym, ◌∙◌, ap, subst, arith}
 use Rattle.std.specs.List.{list_any, range_with_len}
+use Rattle.std.proofs.lemmas.Bool.Decides.{nat_tests}
 use Rattle.std.proofs.lemmas.Bool.{lt-ltb, le-ltb, ltb-false, or_parts}
 use Rattle.std.proofs.lemmas.List.{length-map, get_or_default}
 use Rattle.std.proofs.lemmas.List.FromFn.{length-map-range_with_len}
@@ -106,16 +107,25 @@ memory-from bytes cores stack heap loaded mapped permissions words same table sm
     (subst (λ (ls : List Segment). IsContents (loaded_word bytes ls) mapped words (length mapped)) same contents)
 
 -- what is read off the file once
-pub read-from : (bytes : List ℕ) (cores stack heap first entry : ℕ) (loaded : List Segment) → loaded ≡ segments bytes → length loaded ≤ 64 → list_any passes_limit loaded ≡ false → first ≡ break_page loaded → end_of_heap loaded heap ≤ address_limit → entry ≡ entry_address bytes → IsReadFrom (layout_of bytes cores stack heap) loaded (4096 * first) entry
+pub read-from : (bytes : List ℕ) (cores stack heap first entry : ℕ) (loaded : List Segment) → loaded ≡ segments bytes → length loaded ≤ 64 → list_any passes_limit loaded ≡ false → first ≡ break_page loaded → end_of_heap loaded heap ≤ address_limit → entry ≡ entry_address bytes → entry % 4 ≡ 0 → IsReadFrom (layout_of bytes cores stack heap) loaded (4096 * first) entry
 unfolding entry_of
-read-from bytes cores stack heap first entry loaded same few ends at low from = record {
+read-from bytes cores stack heap first entry loaded same few ends at low from aligned = record {
   loaded_is = same;
   few_segments = few;
   ends = ends;
   base_is = ap (λ n. 4096 * n) (at ∙ ap break_page same);
   heap_low = subst (λ (ls : List Segment). end_of_heap ls heap ≤ address_limit) same low;
   entry_is = from;
+  aligned = aligned;
 }
+
+-- an accepted entry is a multiple of 4
+pub entry-aligned : (entry : ℕ) (executes : Bool) → None ≡ (if not (nat_eq (entry % 4) 0) || not executes then Some Entry else None) → entry % 4 ≡ 0
+entry-aligned entry executes accepted = by_test (nat_eq (entry % 4) 0) (grind (arith, nat_tests)) accepted
+  where
+    by_test : (b : Bool) → (b ≡ true → entry % 4 ≡ 0) → None ≡ (if not b || not executes then Some Entry else None) → entry % 4 ≡ 0
+    by_test true holds e = holds refl
+    by_test false holds e = absurd (cc)
 
 -- a table that lists few mapped pages counts few
 pub table-few : (set : ℕ → Bool) (allowed : ℕ → Permissions) (mapped : List ℕ) (permissions : List Permissions) {size : ℕ} → IsTableBelow set allowed mapped permissions 1048576 → length mapped ≡ size → size ≤ 4096 → count_below set 1048576 ≤ 4096

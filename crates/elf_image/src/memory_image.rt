@@ -1,5 +1,5 @@
 //! The memory map of a loaded file.
-ghost use Rattle.std.specs.Prelude.{◌≡◌, ◌≢◌, ◌/◌, ◌<◌, ◌≤◌, length, Some, None, IfOk, IfErr, OnOk};
+ghost use Rattle.std.specs.Prelude.{◌≡◌, ◌≢◌, ◌/◌, ◌%◌, ◌<◌, ◌≤◌, length, Some, None, IfOk, IfErr, OnOk};
 ghost use Rattle.elf_image.specs.Elf.{segments};
 ghost use Rattle.elf_image.specs.ImageFault.{image_fault};
 ghost use Rattle.elf_image.specs.Layout.{break_base, entry_of, fetched, first_word, heap_end, is_writable, layout_of, segment_at, word_of, words_of};
@@ -125,7 +125,8 @@ impl Image {
 
     /// The address of the first instruction.
     pub fn entry(&self) -> u32
-        ensures { result ≡ entry_of self.now }
+        ensures entry { result ≡ entry_of self.now }
+        ensures aligned { result % 4 ≡ 0 }
     {
         self.entry
     }

@@ -4,7 +4,7 @@ use Rattle.std.proofs.lemmas.Result.{err_from_is_err_and}
 use Rattle.elf_image.specs.Layout.{all_pages, break_page, count_below, maps}
 use Rattle.elf_image.specs.PageTable.{IsTableOf}
 use Rattle.elf_image.specs.declared.segments.Segment.{Segment}
-use Rattle.elf_image.proofs.LoadLemmas.{at_segments, contents-at, image-file, image-too_large, image-entry, mapped-low, memory-from, read-from, table-few}
+use Rattle.elf_image.proofs.LoadLemmas.{at_segments, contents-at, entry-aligned, image-file, image-too_large, image-entry, mapped-low, memory-from, read-from, table-few}
 use Rattle.elf_image.proofs.memory_image.load.Goals as goal
 
 pub returns-in_err-segments-clause-refused : goal.returns-in_err-segments-clause-refused
@@ -46,7 +46,7 @@ invariant_of-result c =
     let first = c.break_page.ensures ∙ ap break_page c.deref-5.ensures.value in
     rw c.in_ok-kept.ensures.items (
       memory-from c.args.bytes.now c.args.cores c.args.stack c.args.heap c.in_ok-segments.segments.items c.in_ok-table.table.mapped.items c.in_ok-table.table.permissions.items c.in_ok-words.words.items c.in_ok-segments.ensures.segments table few contents,
-      read-from c.args.bytes.now c.args.cores c.args.stack c.args.heap c.break_page.result c.entry_address-entry.result c.in_ok-segments.segments.items c.in_ok-segments.ensures.segments c.in_ok-segments.ensures.few c.in_ok-segments.ensures.ends first c.in_ok-segments.ensures.heap_end c.entry_address-entry.ensures,
+      read-from c.args.bytes.now c.args.cores c.args.stack c.args.heap c.break_page.result c.entry_address-entry.result c.in_ok-segments.segments.items c.in_ok-segments.ensures.segments c.in_ok-segments.ensures.few c.in_ok-segments.ensures.ends first c.in_ok-segments.ensures.heap_end c.entry_address-entry.ensures (entry-aligned c.entry_address-entry.result _ c.in_ok-check_entry.ensures),
     )
 
 pub returns-clause-accepted : goal.returns-clause-accepted
