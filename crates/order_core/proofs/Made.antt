@@ -1,5 +1,5 @@
 -- The steps of the protocol machine as the code makes them: a core is read, changed and put back.
-use Rattle.std.proofs.Common.{◌≡◌, ◌⊎◌, ℕ, zero, suc, ◌+◌, ◌<◌, ◌≤◌, ◌++◌, List, [], ◌∷◌, length, set, get_or, Bool, true, false, Option, Some, None, IfSome, MatchOption, find, refl, sym, ap, subst, ◌∙◌, inl, inr, arith, add-one, ◌^◌}
+use Rattle.std.proofs.Common.{◌≡◌, ◌⊎◌, ℕ, zero, suc, ◌+◌, ◌<◌, List, length, set, get_or, Bool, true, false, Option, Some, None, IfSome, find, refl, sym, ap, subst, ◌∙◌, inl, inr, arith, add-one}
 use Rattle.std.proofs.lemmas.Bool.{cases_eq}
 use Rattle.std.proofs.lemmas.List.{get_or_read}
 use Rattle.std.specs.Option.{option_map_or}
@@ -9,9 +9,9 @@ use Rattle.order_core.specs.declared.shape.Move.TheVariants.{Send, Serve, Reply,
 use Rattle.order_core.specs.declared.shape.Queued.{Queued}
 use Rattle.order_core.specs.declared.shape.CoreQueue.{CoreQueue}
 use Rattle.order_core.specs.WordBelow.{IsWordBelow}
-use Rattle.order_core.specs.Protocol.{no_core, is_free, can_send, first_of, shape_is_next, can_serve, can_reply, committed, sent, without_first, replied, resumed, Protocol, core_at, number_of, counted, served_after, can_commit, commit, can_act, act, moves_of, moves_below, some_move}
+use Rattle.order_core.specs.Protocol.{no_core, is_free, can_send, first_of, can_serve, can_reply, committed, sent, without_first, replied, resumed, Protocol, number_of, counted, served_after, can_commit, can_act, moves_of, moves_below, some_move}
 use Rattle.order_core.specs.Reachable.{IsProtocol}
-use Rattle.order_core.proofs.Queue.{there, pending}
+use Rattle.order_core.proofs.Queue.{there}
 use Rattle.order_core.proofs.Steps.{is_first, word-below}
 use Rattle.order_core.proofs.Rest.{sound-protocol, protocol-commit, protocol-act, find-none_append, find-some_append}
 

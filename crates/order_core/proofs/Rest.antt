@@ -1,5 +1,5 @@
 -- Where no move is enabled, every core is at rest: the record that was committed first can always move.
-use Rattle.std.proofs.Common.{◌≡◌, ◌≢◌, ◌⊎◌, ◌↔◌, ℕ, zero, suc, ◌+◌, ◌<◌, ◌≤◌, ◌&&◌, not, nat_lt, List, [], ◌∷◌, ◌++◌, length, map, drop, set, get_or, replicate, cond, Bool, true, false, Option, Some, None, option_to_list, is_none, is_some, slice_get, find, IsTrue, refl, sym, ap, subst, ◌∙◌, inl, inr, arith, length-set, add-one, lt-ltb}
+use Rattle.std.proofs.Common.{◌≡◌, ◌⊎◌, ◌↔◌, ℕ, zero, suc, ◌<◌, ◌≤◌, ◌&&◌, not, nat_lt, List, [], ◌∷◌, ◌++◌, length, map, cond, Bool, true, false, Option, Some, None, option_to_list, is_none, is_some, slice_get, find, IsTrue, refl, sym, ap, subst, ◌∙◌, inl, inr, arith, length-set, lt-ltb}
 use Rattle.std.specs.Option.{option_map_or}
 use Rattle.std.proofs.lemmas.Bool.{cases_eq}
 use Rattle.std.proofs.lemmas.List.{get_or_past, length-replicate}
@@ -14,11 +14,11 @@ use Rattle.order_core.specs.Marked.{Marked}
 use Rattle.order_core.specs.CanonicalMerge.{is_ready}
 use Rattle.order_core.specs.Places.{reached_at}
 use Rattle.order_core.specs.WordBelow.{IsWordBelow}
-use Rattle.order_core.specs.Protocol.{idle, no_core, is_free, can_send, first_of, shape_is_next, can_serve, is_meet, can_reply, Protocol, begin, core_at, counted, served_after, can_commit, commit, can_act, act, moves_of, moves_below, some_move, IsAtRest, IsAllAtRest, IsSettled}
+use Rattle.order_core.specs.Protocol.{idle, no_core, first_of, shape_is_next, is_meet, Protocol, begin, core_at, can_commit, commit, can_act, act, moves_of, moves_below, some_move, IsAtRest, IsAllAtRest, IsSettled}
 use Rattle.order_core.specs.Reachable.{IsReachable, Begins, Commits, Acts, IsProtocol}
 use Rattle.order_core.proofs.LegalLemmas.{legal_first}
 use Rattle.order_core.proofs.Queue.{touch_of, entry_of, pending, entries_of, one_if, meets, left_of, IsSound}
-use Rattle.order_core.proofs.Steps.{Sound, sound-reachable, length-counted}
+use Rattle.order_core.proofs.Steps.{Sound, sound-reachable}
 
 -- ---- the search for a move
 
