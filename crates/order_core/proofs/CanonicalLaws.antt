@@ -1,10 +1,10 @@
 -- Where logs have a legal merge, the computed canonical order is one, and it is the only canonical order.
-use Rattle.std.proofs.Common.{◌≡◌, ◌⊎◌, ℕ, zero, suc, ◌+◌, ◌<◌, ◌≤◌, List, [], ◌∷◌, length, drop, get_or, Bool, true, false, Option, Some, None, refl, sym, ap, subst, ◌∙◌, inl, inr, arith}
+use Rattle.std.proofs.Common.{◌≡◌, ◌⊎◌, ℕ, zero, suc, ◌<◌, ◌≤◌, List, [], ◌∷◌, length, drop, true, Option, Some, None, refl, sym, ap, subst, ◌∙◌, inl, inr, arith}
 use Rattle.std.proofs.lemmas.Bool.{cases_eq}
 use Rattle.std.proofs.lemmas.List.{get_or_past}
 use Rattle.order_core.specs.declared.entry.Entry.{Entry}
 use Rattle.order_core.specs.Logs.{log_of, entry_count}
-use Rattle.order_core.specs.Marked.{Marked, cores_of, part_of}
+use Rattle.order_core.specs.Marked.{Marked, cores_of}
 use Rattle.order_core.specs.LegalMerge.{IsLegalMerge, HasLegalMerge, IsLegalOrder}
 use Rattle.order_core.specs.CanonicalMerge.{is_ready, least_ready, IsLeastReady, left_after, reached_after, canonical_from, canonical, IsCanonicalFrom, IsCanonicalMerge}
 use Rattle.order_core.proofs.SetAtLemmas.{set_at-same, set_at-other}

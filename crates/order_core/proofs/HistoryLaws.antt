@@ -1,5 +1,5 @@
 -- A history that fits logs, with the units without access put in, is a legal merge of them.
-use Rattle.std.proofs.Common.{◌≡◌, ◌≢◌, ◌⊎◌, ℕ, zero, suc, ◌+◌, ◌<◌, ◌≤◌, List, [], ◌∷◌, ◌++◌, length, map, cond, Bool, true, false, eqb, Option, Some, None, refl, sym, ap, subst, ◌∙◌, inl, inr, arith, append_assoc, append-nil, option_to_list, eq-eqb, ne_eqb}
+use Rattle.std.proofs.Common.{◌≡◌, ◌≢◌, ◌⊎◌, ℕ, zero, suc, ◌≤◌, List, [], ◌∷◌, ◌++◌, length, cond, Bool, Option, Some, None, refl, sym, ap, subst, ◌∙◌, inl, inr, arith, append-nil, option_to_list, eq-eqb, ne_eqb}
 use Rattle.std.proofs.lemmas.Bool.{cases_eq}
 use Rattle.std.proofs.lemmas.List.{get_or_past}
 use Rattle.order_core.specs.declared.entry.Access.{Access}
@@ -7,7 +7,7 @@ use Rattle.order_core.specs.declared.entry.Entry.{Entry}
 use Rattle.order_core.specs.SetAt.{set_at}
 use Rattle.order_core.specs.Logs.{log_of}
 use Rattle.order_core.specs.Marked.{Marked, part_of, number_at, numbers_of}
-use Rattle.order_core.specs.LegalMerge.{CountUpFrom, IsLegalMerge}
+use Rattle.order_core.specs.LegalMerge.{CountUpFrom}
 use Rattle.order_core.specs.History.{CoreAccess, accesses_of, numbers_in, touches_of, touched_by, history_of, FitsLogs, ExtendsToMerge}
 use Rattle.order_core.proofs.SetAtLemmas.{set_at-same, set_at-other}
 use Rattle.order_core.proofs.MarkedLemmas.{part_of-same, part_of-other}

@@ -1,12 +1,11 @@
 -- Legal merges of what is left of logs: a ready core's next entry may always come first.
-use Rattle.std.proofs.Common.{◌≡◌, ◌≢◌, ◌⊎◌, ℕ, suc, ◌+◌, ◌<◌, ◌≤◌, List, [], ◌∷◌, ◌++◌, drop, cond, Bool, true, false, eqb, Option, Some, None, refl, sym, ap, subst, ◌∙◌, inl, inr, arith, eqb-true, eq-eqb, add-one}
+use Rattle.std.proofs.Common.{◌≡◌, ◌≢◌, ◌⊎◌, ℕ, suc, ◌+◌, ◌≤◌, List, [], ◌∷◌, ◌++◌, drop, cond, Bool, true, false, eqb, Option, Some, None, refl, sym, ap, subst, ◌∙◌, inl, inr, arith, eqb-true, eq-eqb, add-one}
 use Rattle.std.proofs.lemmas.Bool.Decides.{eqb_tells}
 use Rattle.order_core.specs.declared.entry.Access.{Access}
 use Rattle.order_core.specs.declared.entry.Entry.{Entry}
-use Rattle.order_core.specs.SetAt.{set_at}
-use Rattle.order_core.specs.Marked.{Marked, cores_of, part_of, number_at, numbers_of}
+use Rattle.order_core.specs.Marked.{Marked, part_of, number_at, numbers_of}
 use Rattle.order_core.specs.LegalMerge.{CountUpFrom}
-use Rattle.order_core.specs.CanonicalMerge.{is_ready, may_touch, left_after, raised, reached_after}
+use Rattle.order_core.specs.CanonicalMerge.{is_ready, may_touch, left_after, raised}
 use Rattle.order_core.proofs.SetAtLemmas.{set_at-same, set_at-other}
 use Rattle.order_core.proofs.MarkedLemmas.{without, part_of-same, part_of-other, part_of-without_same, part_of-without_other, number_at-some, number_at-apart, numbers_of-without}
 

@@ -10,3 +10,5 @@ pub mod CanonicalLaws
 pub mod HistoryLaws
 pub mod Queue
 pub mod Steps
+pub mod Rest
+pub mod Made

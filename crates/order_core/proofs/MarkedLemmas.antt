@@ -1,10 +1,9 @@
 -- Marked entries without the first entry of one core: the parts of the cores and the numbers of the words.
-use Rattle.std.proofs.Common.{◌≡◌, ◌≢◌, ◌⊎◌, ℕ, suc, ◌+◌, ◌<◌, ◌≤◌, List, [], ◌∷◌, ◌++◌, drop, cond, Bool, true, false, eqb, Option, Some, None, refl, sym, ap, subst, ◌∙◌, inl, inr, arith, eq-eqb, ne_eqb}
+use Rattle.std.proofs.Common.{◌≡◌, ◌≢◌, ◌⊎◌, ℕ, List, [], ◌∷◌, ◌++◌, drop, cond, Bool, true, false, eqb, Some, refl, sym, ap, ◌∙◌, inl, inr, eq-eqb, ne_eqb}
 use Rattle.std.proofs.lemmas.Bool.Decides.{eqb_tells}
 use Rattle.order_core.specs.declared.entry.Access.{Access}
 use Rattle.order_core.specs.declared.entry.Entry.{Entry}
 use Rattle.order_core.specs.Marked.{Marked, part_of, number_at, numbers_of}
-use Rattle.order_core.specs.LegalMerge.{CountUpFrom}
 
 -- without the first entry of the core
 abbrev pub without : ℕ → List Marked → List Marked

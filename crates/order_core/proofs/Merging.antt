@@ -1,8 +1,8 @@
 -- How the code that merges stands to the definition of the canonical merge.
-use Rattle.std.proofs.Common.{◌≡◌, ◌≢◌, ◌⊎◌, set, eqb, get_or-set_same, get_or-set_other, drop-drop, ℕ, zero, suc, ◌+◌, ◌<◌, ◌≤◌, List, [], ◌∷◌, length, get_or, drop, Bool, true, false, cond, All, Option, Some, None, refl, sym, ap, subst, arith, ◌∙◌, add-one, inl, inr, eq-or-lt_of_le, le_of_suc-le-suc}
+use Rattle.std.proofs.Common.{◌≡◌, ◌≢◌, ◌⊎◌, set, eqb, get_or-set_same, get_or-set_other, drop-drop, ℕ, zero, suc, ◌+◌, ◌<◌, List, [], ◌∷◌, length, get_or, drop, true, false, All, Some, None, refl, sym, ap, subst, arith, ◌∙◌, add-one, inl, inr, eq-or-lt_of_le, le_of_suc-le-suc}
 use Rattle.bounded_list.specs.Bounded.{Bounded}
 use Rattle.order_core.specs.declared.entry.Entry.{Entry}
-use Rattle.order_core.specs.Logs.{logs_of, log_of, TouchesBelow, AllTouchBelow, entry_count}
+use Rattle.order_core.specs.Logs.{logs_of, log_of, TouchesBelow, AllTouchBelow}
 use mathlib.Core.Path.{fun_ext}
 use Rattle.std.proofs.lemmas.Bool.Decides.{eqb_tells}
 use Rattle.order_core.specs.CanonicalMerge.{is_ready, least_ready, left_after}

@@ -1,10 +1,8 @@
 -- The queue of all unserved records of the protocol machine, in the order in which they were committed: it is a legal merge
 -- of what the cores have on their way, from the numbers that the words' service has reached.
-use Rattle.std.proofs.Common.{◌≡◌, ◌≢◌, ◌⊎◌, ℕ, zero, suc, ◌+◌, ◌<◌, ◌≤◌, ◌&&◌, not, nat_lt, List, [], ◌∷◌, ◌++◌, length, map, drop, set, get_or, replicate, cond, Bool, true, false, eqb, Option, Some, None, option_to_list, refl, sym, ap, subst, ◌∙◌, inl, inr, arith, append-nil, append_assoc, length-append, length-set, eq-eqb, ne_eqb, eqb-true, add-one, add-zero, get_or-set_same, get_or-set_other}
-use Rattle.std.specs.List.{slice_get}
+use Rattle.std.proofs.Common.{◌≡◌, ◌≢◌, ◌⊎◌, ℕ, suc, ◌+◌, ◌<◌, ◌≤◌, List, [], ◌∷◌, ◌++◌, length, map, drop, set, get_or, cond, Bool, true, false, Option, Some, None, option_to_list, refl, sym, ap, subst, ◌∙◌, inl, inr, arith, append-nil, append_assoc, length-append, length-set, eq-eqb, ne_eqb, add-zero, get_or-set_same, get_or-set_other}
 use Rattle.std.proofs.lemmas.Bool.{cases_eq}
 use Rattle.std.proofs.lemmas.List.{map-append, get_or_past}
-use mathlib.Core.Path.{fun_ext}
 use Rattle.order_core.specs.declared.entry.Access.{Access}
 use Rattle.order_core.specs.declared.entry.Entry.{Entry}
 use Rattle.order_core.specs.declared.shape.Shape.{Shape}
@@ -17,11 +15,10 @@ use Rattle.order_core.specs.LegalMerge.{CountUpFrom}
 use Rattle.order_core.specs.CanonicalMerge.{may_touch, left_after, raised}
 use Rattle.order_core.specs.Places.{reached_at}
 use Rattle.order_core.specs.WordBelow.{IsWordBelow}
-use Rattle.order_core.specs.Protocol.{no_core, is_free, is_meet, shape_is_next, marked_by, committed, sent, without_first, replied, resumed, Protocol, core_at, number_of, counted}
+use Rattle.order_core.specs.Protocol.{no_core, is_meet, number_of, counted}
 use Rattle.order_core.proofs.SetAtLemmas.{set_at-same, set_at-other, read_or, read_or-set}
 use Rattle.order_core.proofs.MarkedLemmas.{without, part_of-same, part_of-other, number_at-some, number_at-apart}
 use Rattle.order_core.proofs.LegalLemmas.{IsLegalFrom, legal_without}
-use Rattle.order_core.proofs.Giving.{get_or-zeros}
 
 -- ---- what a core has on its way
 

@@ -1,13 +1,9 @@
 -- Each step of the protocol machine keeps the queue of unserved records.
-use Rattle.std.proofs.Common.{◌≡◌, ◌≢◌, ◌⊎◌, ℕ, zero, suc, ◌+◌, ◌<◌, ◌≤◌, ◌&&◌, not, nat_lt, List, [], ◌∷◌, ◌++◌, length, map, drop, set, get_or, replicate, cond, Bool, true, false, Option, Some, None, option_to_list, is_none, is_some, slice_get, refl, sym, ap, subst, ◌∙◌, inl, inr, arith, append-nil, append_assoc, length-set, add-zero}
+use Rattle.std.proofs.Common.{◌≡◌, ◌⊎◌, ℕ, zero, suc, ◌+◌, ◌<◌, ◌≤◌, ◌&&◌, not, List, [], ◌∷◌, ◌++◌, length, drop, set, get_or, replicate, Bool, true, false, Option, Some, None, option_to_list, is_none, slice_get, refl, sym, ap, subst, ◌∙◌, inl, inr, arith, append-nil, length-set, add-zero}
 use Rattle.std.specs.Option.{option_map_or}
-use Rattle.std.proofs.lemmas.Bool.{cases_eq}
 use Rattle.std.proofs.lemmas.List.{get_or_past, get_or-replicate, length-replicate}
-use Rattle.order_core.specs.declared.entry.Access.{Access}
-use Rattle.order_core.specs.declared.entry.Entry.{Entry}
 use Rattle.order_core.specs.declared.shape.Shape.{Shape}
 use Rattle.order_core.specs.declared.shape.Shape.TheVariants.{Quiet, Touch, Meet, End}
-use Rattle.order_core.specs.declared.shape.Move.{Move}
 use Rattle.order_core.specs.declared.shape.Move.TheVariants.{Send, Serve, Reply, Resume}
 use Rattle.order_core.specs.declared.shape.Queued.{Queued}
 use Rattle.order_core.specs.declared.shape.CoreQueue.{CoreQueue}
@@ -15,12 +11,11 @@ use Rattle.order_core.specs.Marked.{Marked}
 use Rattle.order_core.specs.CanonicalMerge.{may_touch, raised}
 use Rattle.order_core.specs.Places.{reached_at}
 use Rattle.order_core.specs.WordBelow.{IsWordBelow}
-use Rattle.order_core.specs.Protocol.{idle, no_core, is_free, can_send, first_of, shape_is_next, can_serve, is_meet, can_reply, marked_by, committed, sent, without_first, replied, resumed, Protocol, begin, core_at, number_of, counted, served_after, InRange, can_commit, commit, can_act, act}
-use Rattle.order_core.specs.Reachable.{IsReachable, Begins, Commits, Acts, IsProtocol}
+use Rattle.order_core.specs.Protocol.{idle, no_core, is_free, can_send, first_of, shape_is_next, can_serve, is_meet, can_reply, marked_by, committed, sent, without_first, replied, resumed, Protocol, begin, core_at, number_of, counted, served_after, InRange, can_commit, commit, act}
+use Rattle.order_core.specs.Reachable.{IsReachable, Begins, Commits, Acts}
 use Rattle.order_core.proofs.SetAtLemmas.{read_or-set}
-use Rattle.order_core.proofs.Giving.{get_or-zeros}
 use Rattle.order_core.proofs.MarkedLemmas.{without}
-use Rattle.order_core.proofs.Queue.{touch_of, entry_of, pending, entries_of, one_if, meets, meets-append, left_of, IsMet, IsSound, there, sound_same, sound_served, served-below, sound_more}
+use Rattle.order_core.proofs.Queue.{touch_of, entry_of, pending, entries_of, one_if, meets, meets-append, IsMet, IsSound, there, sound_same, sound_served, served-below, sound_more}
 
 abbrev pub Sound : ℕ → Protocol → Type 0
 Sound bound s = (queue : List Marked) × IsSound bound s.cores s.drawn s.served queue

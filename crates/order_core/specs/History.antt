@@ -1,6 +1,6 @@
 -- A history of accesses of several cores in one order, as a table of numbered words gives it, and the logs that it fits:
 -- each core's part is the accesses of its log, and each word's numbers count up from 0.
-use Rattle.std.specs.Prelude.{◌≡◌, ℕ, ◌==◌, if◌then◌else◌, List, [], ◌∷◌, ◌++◌, Option, Some, None, option_to_list, map}
+use Rattle.std.specs.Prelude.{◌≡◌, ℕ, ◌==◌, if◌then◌else◌, List, [], ◌∷◌, ◌++◌, Option, Some, None, option_to_list}
 use Rattle.order_core.specs.declared.entry.Access.{Access}
 use Rattle.order_core.specs.declared.entry.Entry.{Entry}
 use Rattle.order_core.specs.Logs.{log_of}

@@ -1,7 +1,7 @@
 -- The protocol machine of cores, lanes and service. A core commits records; each goes to the end of the core's lane, and
 -- is taken from its front and served: an access when its word's turn has come to the number that it drew. At a meeting
 -- a core waits until its record has come to the front and the reply is taken up.
-use Rattle.std.specs.Prelude.{◌≡◌, ℕ, ◌+◌, ◌<◌, ◌&&◌, ◌==◌, not, nat_lt, Bool, true, false, List, [], ◌∷◌, ◌++◌, length, drop, replicate, slice_get, slice_index, slice_index_or, slice_set, Option, Some, None, is_some, is_none, option_to_list, IsTrue, ◌⊎◌, zero, suc, find}
+use Rattle.std.specs.Prelude.{◌≡◌, ℕ, ◌+◌, ◌&&◌, ◌==◌, not, nat_lt, Bool, true, false, List, [], ◌∷◌, ◌++◌, length, drop, replicate, slice_get, slice_index, slice_index_or, slice_set, Option, Some, None, is_some, is_none, option_to_list, IsTrue, ◌⊎◌, zero, suc, find}
 use Rattle.std.specs.Option.{option_map_or}
 use Rattle.order_core.specs.declared.shape.Shape.{Shape}
 use Rattle.order_core.specs.declared.shape.Shape.TheVariants.{Quiet, Touch, Meet, End}

@@ -1,5 +1,5 @@
 -- The states of the protocol machine to which commits and enabled moves lead from the state with nothing committed.
-use Rattle.std.specs.Prelude.{◌≡◌, ℕ, ◌<◌, Bool, true}
+use Rattle.std.specs.Prelude.{◌≡◌, ℕ, ◌<◌, true}
 use Rattle.order_core.specs.declared.shape.Shape.{Shape}
 use Rattle.order_core.specs.declared.shape.Move.{Move}
 use Rattle.order_core.specs.Protocol.{Protocol, begin, can_commit, InRange, commit, can_act, act}

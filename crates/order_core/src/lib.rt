@@ -6,8 +6,10 @@ pub mod laws;
 mod merge_room;
 mod numbers;
 mod shape;
+mod system;
 
 pub use bounded_list::{BoundedList, NoMemory};
 pub use entry::{Access, Bytes, CoreLog, Entry, Order, Pieces};
 pub use merge_room::{MergeRoom, all_touch_below, merge};
 pub use shape::{Move, Shape};
+pub use system::System;

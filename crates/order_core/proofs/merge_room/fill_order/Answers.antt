@@ -1,7 +1,6 @@
-use Rattle.std.proofs.Common.{◌≡◌, ℕ, ◌+◌, ◌<◌, ◌≤◌, length, slice_index, get_or, replicate, arith, rules, ap, sym, ◌∙◌, List}
+use Rattle.std.proofs.Common.{◌≡◌, ℕ, length, get_or, arith, rules, ap, ◌∙◌, List}
 use Rattle.std.proofs.lemmas.List.{length_push}
 use Rattle.bounded_list.specs.Bounded.{Bounded}
-use Rattle.order_core.specs.Logs.{logs_of}
 use Rattle.order_core.proofs.Giving.{list_gives-more, list_gives-none, list_gives-within, list_gives-full, list_gives-nothing, get_or-zeros, same_list}
 use Rattle.order_core.proofs.merge_room.fill_order.Goals as goal
 

@@ -1,4 +1,4 @@
-use Rattle.std.proofs.Common.{◌≡◌, ℕ, ◌+◌, ◌<◌, arith, set, ap, sym, ◌∙◌, length, get_or, vec_len}
+use Rattle.std.proofs.Common.{◌≡◌, ℕ, ◌+◌, ◌<◌, arith, set, ap, ◌∙◌, length, get_or}
 use Rattle.std.proofs.lemmas.List.{get_or_read}
 use Rattle.order_core.specs.Logs.{logs_of}
 use Rattle.order_core.specs.Places.{left_at}
