@@ -1,7 +1,7 @@
 -- Lemmas on the first fault of a list of tests.
-use Rattle.std.proofs.Common.{◌≡◌, ℕ, List, [], ◌∷◌, ◌++◌, Option, Some, None, Bool, true, false, if◌then◌else◌, refl, sym, ◌∙◌, ap, length, ◌≤◌, arith}
+use Rattle.std.proofs.Common.{◌≡◌, ℕ, List, [], ◌∷◌, ◌++◌, Option, Some, None, Bool, true, false, if◌then◌else◌, refl, sym, ◌∙◌, ap, length, ◌≤◌}
 use Rattle.std.proofs.lemmas.Bool.{ltb-false}
-use Rattle.elf_image.specs.ImageFault.{Test, test, first_fault, file_tests, identification_tests, header_tests, segment_tests, is_short, is_no_executable, is_other_machine, has_unsupported_flags, has_bad_table, passes_limit, address_limit, overlaps}
+use Rattle.elf_image.specs.ImageFault.{Test, first_fault, file_tests, identification_tests, header_tests, segment_tests, is_short, is_no_executable, is_other_machine, has_unsupported_flags, has_bad_table}
 use Rattle.elf_image.specs.Elf.{program_headers, segments}
 use Rattle.elf_image.specs.declared.fault.ImageFault.{ImageFault}
 use Rattle.elf_image.specs.declared.headers.ProgramHeader.{ProgramHeader}

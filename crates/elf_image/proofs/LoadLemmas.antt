@@ -1,14 +1,14 @@
 -- Lemmas on what loading makes of an accepted file: its first fault, and the memory of its layout.
-use Rattle.std.proofs.Common.{◌≡◌, ℕ, ◌+◌, ◌*◌, ◌/◌, ◌%◌, ◌<◌, ◌≤◌, List, length, map, filter, get_or, Option, Some, None, Bool, true, false, not, ◌||◌, nat_eq, nat_lt, if◌then◌else◌, refl, sym, ◌∙◌, ap, subst, arith}
-use Rattle.std.specs.List.{list_any, range_with_len}
+use Rattle.std.proofs.Common.{◌≡◌, ℕ, ◌+◌, ◌*◌, ◌/◌, ◌%◌, ◌<◌, ◌≤◌, List, length, filter, get_or, Option, Some, None, Bool, true, false, not, ◌||◌, nat_eq, nat_lt, if◌then◌else◌, refl, sym, ◌∙◌, ap, subst, arith}
+use Rattle.std.specs.List.{list_any}
 use Rattle.std.proofs.lemmas.Bool.Decides.{nat_tests}
 use Rattle.std.proofs.lemmas.Bool.{lt-ltb, le-ltb, ltb-false, or_parts}
 use Rattle.std.proofs.lemmas.List.{length-map, get_or_default}
 use Rattle.std.proofs.lemmas.List.FromFn.{length-map-range_with_len}
 use Rattle.std.proofs.lemmas.List.Sums.{length-filter, count_by-le-length}
-use Rattle.elf_image.specs.Elf.{entry_address, header_at, program_headers, segment_of, segments, segments_of, table_entries, table_offset, takes_memory}
-use Rattle.elf_image.specs.ImageFault.{first_fault, file_tests, header_tests, map_tests, image_fault, has_bad_table, has_bad_entry, is_too_large, passes_limit, address_limit}
-use Rattle.elf_image.specs.Layout.{Layout, layout_of, all_pages, count_below, nth_from, address_of, break_page, end_of_heap, entry_of, executes, is_executable_page, is_mapped, is_writable_page, loaded_word, maps, page_of, word_at}
+use Rattle.elf_image.specs.Elf.{entry_address, header_at, program_headers, segment_of, segments, table_entries, table_offset, takes_memory}
+use Rattle.elf_image.specs.ImageFault.{first_fault, file_tests, header_tests, map_tests, image_fault, has_bad_entry, is_too_large, passes_limit, address_limit}
+use Rattle.elf_image.specs.Layout.{layout_of, all_pages, count_below, nth_from, address_of, break_page, end_of_heap, entry_of, executes, is_executable_page, is_mapped, is_writable_page, loaded_word, maps, word_at}
 use Rattle.elf_image.specs.Memory.{IsMemoryOf, IsReadFrom, permissions_of_layout}
 use Rattle.elf_image.specs.PageTable.{IsContents, IsTableBelow, IsTableOf}
 use Rattle.elf_image.proofs.Counting.{count_from-zero, nth_from-count}

@@ -1,9 +1,9 @@
 -- Lemmas on the entries of the table of pages, and on the words of memory.
-use Rattle.std.proofs.Common.{◌≡◌, ℕ, zero, suc, ◌+◌, ◌-◌, ◌*◌, ◌/◌, ◌%◌, ◌<◌, ◌≤◌, List, [], ◌∷◌, length, get_or, slice_get, Option, Some, None, Bool, true, false, ◌&&◌, ◌||◌, if◌then◌else◌, nat_eq, refl, sym, ◌∙◌, ap, subst, inl, inr, arith, ◌^◌}
+use Rattle.std.proofs.Common.{◌≡◌, ℕ, zero, suc, ◌+◌, ◌-◌, ◌*◌, ◌/◌, ◌%◌, ◌<◌, ◌≤◌, List, [], ◌∷◌, length, get_or, slice_get, Some, None, Bool, true, false, ◌&&◌, if◌then◌else◌, refl, sym, ◌∙◌, ap, inl, inr, arith, ◌^◌}
 use Rattle.std.specs.List.{list_any}
 use Rattle.std.proofs.lemmas.Bool.{cases_Bool, or_cases, or_left, or_right, and_parts, both_ways, eq-eqb, ne_eqb}
 use Rattle.elf_image.specs.Elf.{segments, may_write, may_execute}
-use Rattle.elf_image.specs.Layout.{Layout, touches, is_data_page, break_page, is_mapped, is_writable_page, is_executable_page, is_writable, count_below, nth_from, all_pages, page_of, words_of, word_of, word_at, address_of, segment_at, first_word, fetched, break_base}
+use Rattle.elf_image.specs.Layout.{Layout, touches, is_data_page, is_mapped, is_writable_page, is_executable_page, is_writable, count_below, nth_from, all_pages, words_of, word_of, word_at, address_of, segment_at, first_word, fetched, break_base}
 use Rattle.elf_image.specs.Memory.{page_of_layout, permissions_of_layout, IsMemoryOf}
 use Rattle.elf_image.proofs.Counting.{count_below-le, count_below-lt, count_from-zero, nth_from-count}
 use Rattle.elf_image.specs.declared.segments.Segment.{Segment}

@@ -1,8 +1,8 @@
 -- Lemmas on the first number of a set from a number on.
-use Rattle.std.proofs.Common.{◌≡◌, ℕ, zero, suc, ◌+◌, ◌-◌, ◌*◌, ◌/◌, ◌<◌, ◌≤◌, List, [], ◌∷◌, Bool, true, false, ◌||◌, ◌&&◌, min, max, refl, sym, ◌∙◌, ap, subst, inl, inr, nat_lt, arith}
+use Rattle.std.proofs.Common.{◌≡◌, ℕ, zero, suc, ◌+◌, ◌-◌, ◌*◌, ◌/◌, ◌<◌, ◌≤◌, Bool, true, false, ◌||◌, min, max, refl, ◌∙◌, ap, subst, inl, inr, nat_lt, arith}
 use Rattle.std.specs.List.{list_any, range_with_len}
-use Rattle.std.proofs.lemmas.Bool.{cases_lt, or_from, or_left, or_right, and_from, and_left, and_right, le-leb, lt-leb, lt-ltb, le-ltb, and_parts, ltb-true, both_ways, false_from_ne_true}
-use Rattle.elf_image.specs.Layout.{is_heap_page, is_stack_page, is_stack_page_of, stack_top, touches}
+use Rattle.std.proofs.lemmas.Bool.{cases_lt, or_from, or_left, or_right, and_from, and_left, lt-ltb, le-ltb, and_parts, ltb-true, both_ways, false_from_ne_true}
+use Rattle.elf_image.specs.Layout.{is_stack_page, is_stack_page_of, touches}
 use Rattle.elf_image.specs.PageTable.{IsNextOf}
 use Rattle.elf_image.proofs.StackPages.{in_stack, below_stack, above_stack}
 use Rattle.elf_image.specs.declared.segments.Segment.{Segment}

@@ -1,12 +1,10 @@
 -- Lemmas on the place of a page among the mapped ones, which is the count of those below it.
-use Rattle.std.proofs.Common.{◌≡◌, ℕ, ◌-◌, ◌<◌, ◌≤◌, List, length, get_or, Option, Some, None, Bool, true, false, nat_lt, refl, sym, ◌∙◌, ap, subst, inl, inr, arith}
-use Rattle.std.proofs.lemmas.Bool.{cases_lt, cases_Bool, lt-ltb, ltb-true, false_from_ne_true}
-use Rattle.std.proofs.lemmas.List.{get_or_default}
+use Rattle.std.proofs.Common.{◌≡◌, ℕ, ◌-◌, ◌<◌, ◌≤◌, List, length, get_or, Some, None, Bool, true, false, refl, sym, ◌∙◌, ap, subst, inl, inr, arith}
+use Rattle.std.proofs.lemmas.Bool.{cases_lt, false_from_ne_true}
 use Rattle.elf_image.specs.Layout.{Layout, count_below, is_mapped}
 use Rattle.elf_image.specs.Memory.{IsMemoryOf, page_of_layout, permissions_of_layout}
 use Rattle.elf_image.specs.PageTable.{IsTableBelow}
 use Rattle.elf_image.proofs.Counting.{at_the_count, count_below-lt, count_below-mono}
-use Rattle.elf_image.specs.declared.memory_image.Page.{Page}
 use Rattle.elf_image.specs.declared.page_table.Permissions.{Permissions}
 
 -- a place between lower and higher pages is the count

@@ -1,7 +1,7 @@
 -- The definitions at a worked image of ten words, whose front is that of a file with one segment: what they give is what the memory map says.
-use Rattle.std.proofs.Common.{◌≡◌, ℕ, ◌++◌, List, [], ◌∷◌, Option, Some, None, true, refl}
+use Rattle.std.proofs.Common.{◌≡◌, ℕ, ◌++◌, List, [], ◌∷◌, Some, None, true, refl}
 use Rattle.elf_image.specs.Elf.{program_headers, segments}
-use Rattle.elf_image.specs.Layout.{Layout, is_mapped, is_executable_page, is_writable_page, is_writable, count_below, nth_from, word_of, words_of, word_at, byte_at, address_of, first_word, fetched, entry_of, break_base, heap_end, stack_top, first_registers}
+use Rattle.elf_image.specs.Layout.{Layout, is_mapped, is_executable_page, is_writable_page, is_writable, count_below, nth_from, word_of, word_at, address_of, first_word, fetched, entry_of, break_base, heap_end}
 
 abbrev front : List ℕ
 front =

@@ -1,6 +1,5 @@
 -- Lemmas on lists of segments.
-use Rattle.std.proofs.Common.{◌≡◌, ℕ, ◌<◌, ◌≤◌, List, [], ◌∷◌, max, Bool, true, false, nat_lt, fold, arith, refl, zero, suc, Option, Some, slice_get, ◌||◌}
-use Rattle.std.proofs.lemmas.Grind.{common_steps}
+use Rattle.std.proofs.Common.{◌≡◌, ℕ, ◌≤◌, List, [], ◌∷◌, max, Bool, true, false, fold, arith, refl, zero, suc, Some, slice_get, ◌||◌}
 use Rattle.std.proofs.lemmas.Bool.{ltb-false}
 use Rattle.std.specs.List.{list_any}
 use Rattle.elf_image.specs.Layout.{highest_end}

@@ -1,5 +1,5 @@
 -- The header and the program headers of a 32-bit little-endian ELF file, as numbers read out of its bytes (System V gABI, "ELF Header" and "Program Header"; RISC-V psABI, "File Header").
-use Rattle.std.specs.Prelude.{◌≡◌, ℕ, ◌+◌, ◌*◌, ◌<◌, List, map, length, drop, slice_index, filter, Bool, ◌&&◌, ◌==◌, nat_lt, bit_and, not}
+use Rattle.std.specs.Prelude.{ℕ, ◌+◌, ◌*◌, List, map, drop, filter, Bool, ◌&&◌, ◌==◌, nat_lt, bit_and, not}
 use Rattle.std.specs.List.{range_with_len}
 use Rattle.byteorder.specs.Endian.{little_number}
 use Rattle.elf_image.specs.declared.headers.ProgramHeader.{ProgramHeader}

@@ -1,7 +1,7 @@
 -- Why a file is no image: sixteen tests of its bytes and of the memory that is asked for, and the first of them that applies (System V gABI, "ELF Header" and "Program Header"; RISC-V psABI, "File Header").
-use Rattle.std.specs.Prelude.{◌≡◌, ℕ, ◌+◌, ◌*◌, ◌%◌, List, [], ◌∷◌, ◌++◌, length, slice_index, Option, Some, None, Bool, true, false, not, ◌&&◌, ◌||◌, ◌==◌, nat_eq, nat_lt, if◌then◌else◌}
+use Rattle.std.specs.Prelude.{ℕ, ◌+◌, ◌*◌, ◌%◌, List, [], ◌∷◌, ◌++◌, length, slice_index, Option, Some, None, Bool, false, not, ◌&&◌, ◌||◌, ◌==◌, nat_eq, nat_lt, if◌then◌else◌}
 use Rattle.std.specs.List.{list_any, starts_with}
-use Rattle.elf_image.specs.Elf.{number_at, has_bits, entry_address, table_offset, header_flags, table_entry_size, table_entries, program_headers, is_load, takes_memory, segments}
+use Rattle.elf_image.specs.Elf.{number_at, has_bits, entry_address, table_offset, header_flags, table_entry_size, table_entries, program_headers, is_load, segments}
 use Rattle.elf_image.specs.Layout.{Layout, layout_of, page_of, all_pages, count_below, is_mapped, is_executable_page, end_of_heap}
 use Rattle.elf_image.specs.declared.headers.ProgramHeader.{ProgramHeader}
 use Rattle.elf_image.specs.declared.segments.Segment.{Segment}

@@ -1,5 +1,5 @@
 -- What a loaded image keeps of its layout: the table of pages, the first words, and what is read off the file once.
-use Rattle.std.specs.Prelude.{◌≡◌, ℕ, ◌+◌, ◌*◌, ◌%◌, ◌<◌, ◌≤◌, List, length, slice_index_or, Option, Some, None, Bool, false, if◌then◌else◌}
+use Rattle.std.specs.Prelude.{◌≡◌, ℕ, ◌%◌, ◌*◌, ◌<◌, ◌≤◌, List, length, slice_index_or, Option, Some, None, false, if◌then◌else◌}
 use Rattle.std.specs.List.{list_any}
 use Rattle.elf_image.specs.Elf.{segments}
 use Rattle.elf_image.specs.Layout.{Layout, is_mapped, is_writable_page, is_executable_page, count_below, all_pages, word_at, address_of, break_base, heap_end, entry_of}

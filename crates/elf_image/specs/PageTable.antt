@@ -1,5 +1,5 @@
 -- What the table of pages holds: the mapped pages in ascending order, and what may be done on each.
-use Rattle.std.specs.Prelude.{◌≡◌, ℕ, ◌<◌, ◌≤◌, false, List, length, slice_index, slice_index_or, ◌+◌, ◌*◌, ◌/◌, ◌%◌, Bool, true, ◌&&◌, ◌||◌}
+use Rattle.std.specs.Prelude.{◌≡◌, ℕ, ◌<◌, ◌≤◌, false, List, length, slice_index, slice_index_or, ◌+◌, ◌*◌, ◌/◌, ◌%◌, Bool, true, ◌&&◌}
 use Rattle.elf_image.specs.Elf.{may_write}
 use Rattle.elf_image.specs.Layout.{touches, maps, writes, executes, count_below, all_pages}
 use Rattle.elf_image.specs.declared.segments.Segment.{Segment}

@@ -1,7 +1,7 @@
 -- The first fault of the tests so far is that of all tests, and where they find none the next ones say.
-use Rattle.std.proofs.Common.{◌≡◌, None, Some, refl, sym, ◌∙◌, ap}
+use Rattle.std.proofs.Common.{◌≡◌, None, Some, sym, ◌∙◌, ap}
 use Rattle.std.proofs.lemmas.Result.{err_from_is_err_and}
-use Rattle.elf_image.specs.Elf.{program_headers, segments, segments_of}
+use Rattle.elf_image.specs.Elf.{segments, segments_of}
 use Rattle.elf_image.proofs.FaultLemmas.{file-at_identification, file-at_header, file-at_segments, header-table}
 use Rattle.elf_image.proofs.LoadLemmas.{segments-few}
 use Rattle.elf_image.proofs.loading.accepted_segments.Goals as goal

@@ -1,5 +1,5 @@
 -- Each refusal is the first fault of the file, and what is kept of an accepted file is its layout's.
-use Rattle.std.proofs.Common.{◌≡◌, ◌≤◌, List, length, subst, Some, None, sym, ◌∙◌, ap, arith}
+use Rattle.std.proofs.Common.{◌≤◌, List, length, subst, Some, None, sym, ◌∙◌, ap}
 use Rattle.std.proofs.lemmas.Result.{err_from_is_err_and}
 use Rattle.elf_image.specs.Layout.{all_pages, break_page, count_below, maps}
 use Rattle.elf_image.specs.PageTable.{IsTableOf}

@@ -1,5 +1,5 @@
 -- The page's distance below the first top says which core it may belong to.
-use Rattle.std.proofs.Common.{◌≡◌, ◌≤◌, ◌<◌, ◌-◌, ◌/◌, refl, sym, ◌∙◌, arith}
+use Rattle.std.proofs.Common.{◌≤◌, ◌<◌, ◌-◌, ◌/◌, refl, sym, ◌∙◌, arith}
 use Rattle.std.proofs.lemmas.Bool.{le-ltb}
 use Rattle.elf_image.proofs.StackPages.{stack_page-above, stack_page-core, stack_page-other_core}
 use Rattle.elf_image.proofs.page_table.is_stack_page.Goals as goal

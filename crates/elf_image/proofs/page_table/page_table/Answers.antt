@@ -1,5 +1,5 @@
 -- The mapped pages below the next one are listed, and one more keeps it so.
-use Rattle.std.proofs.Common.{◌≡◌, ◌∙◌, refl, arith}
+use Rattle.std.proofs.Common.{◌∙◌, refl, arith}
 use Rattle.elf_image.proofs.TableLemmas.{table_full, table_gap, table_more, table_none}
 use Rattle.elf_image.proofs.page_table.page_table.Goals as goal
 

@@ -1,5 +1,5 @@
 -- The entry of the page says whether its words may be fetched, and which word it is.
-use Rattle.std.proofs.Common.{◌≡◌, ◌<◌, ◌/◌, Some, true, false, sym, ◌∙◌, ap, subst, arith}
+use Rattle.std.proofs.Common.{◌/◌, Some, sym, ◌∙◌, ap, subst, arith}
 use Rattle.std.proofs.lemmas.Bool.{not-true, not-false}
 use Rattle.elf_image.specs.Layout.{Layout}
 use Rattle.elf_image.specs.Memory.{IsMemoryOf}

@@ -1,7 +1,7 @@
 -- The words of memory are kept, the break's is the break base, and the other devices' are 0.
-use Rattle.std.proofs.Common.{◌≡◌, ◌≤◌, ◌<◌, length, sym, ◌∙◌, ap, subst, refl, ◌-◌, arith}
+use Rattle.std.proofs.Common.{◌≤◌, length, sym, ◌∙◌, ap, subst, refl, ◌-◌, arith}
 use Rattle.elf_image.specs.Layout.{Layout, break_base, first_word}
-use Rattle.elf_image.specs.Memory.{IsMemoryOf, IsReadFrom}
+use Rattle.elf_image.specs.Memory.{IsMemoryOf}
 use Rattle.elf_image.proofs.MemoryLemmas.{first_word-guest, first_word-break, first_word-device, guest-index}
 use Rattle.elf_image.proofs.memory_image.Image.first_word.Goals as goal
 

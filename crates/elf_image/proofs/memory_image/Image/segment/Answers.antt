@@ -1,5 +1,5 @@
 -- The segments that are kept are those of the file.
-use Rattle.std.proofs.Common.{◌≡◌, length, List, Some, false, arith, ◌∙◌, ap}
+use Rattle.std.proofs.Common.{◌≡◌, List, false, arith, ◌∙◌, ap}
 use Rattle.std.specs.List.{list_any}
 use Rattle.elf_image.specs.Elf.{segments}
 use Rattle.elf_image.specs.ImageFault.{passes_limit}
