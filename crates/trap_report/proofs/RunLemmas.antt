@@ -1,5 +1,5 @@
 -- What a finished run has of its report, and the entries that are left of the logs of its cores.
-use Rattle.std.proofs.Common.{◌≡◌, ℕ, zero, suc, ◌+◌, ◌-◌, ◌<◌, ◌≤◌, List, [], ◌∷◌, map, length, drop, take, get_or, set, replicate, Option, Some, None, refl, sym, ap, ◌∙◌, subst, arith, add-one, eq-eqb, ne_eqb, length-drop, length-set, get_or-set_same, get_or-set_other, inl, inr}
+use Rattle.std.proofs.Common.{◌≡◌, ℕ, zero, suc, ◌+◌, ◌<◌, List, [], ◌∷◌, map, length, drop, take, get_or, set, replicate, Some, None, refl, sym, ap, ◌∙◌, subst, arith, add-one, eq-eqb, ne_eqb, length-drop, length-set, get_or-set_same, get_or-set_other, inl, inr}
 use Rattle.std.proofs.lemmas.List.{length-replicate}
 use Rattle.std.proofs.lemmas.Bool.{cases_eq}
 use Rattle.std.specs.Prelude.{slice_get, sum_by}
@@ -13,11 +13,11 @@ use Rattle.order_core.specs.Marked.{Marked, cores_of as marks_of, part_of}
 use Rattle.machine.specs.Setups.{Setup, cores_of}
 use Rattle.machine.specs.States.{State, opening}
 use Rattle.machine.specs.Steps.{step}
-use Rattle.machine.specs.Runs.{entries, entries_from, along, log_along, IsPlayableFrom, IsComplete}
+use Rattle.machine.specs.Runs.{entries_from, along, log_along, IsPlayableFrom}
 use Rattle.machine.specs.Outcomes.{Summary, summary_of, summaries}
-use Rattle.inline_tracker.specs.Finished.{Seen, IsFinishedRun, finished_along}
+use Rattle.inline_tracker.specs.Finished.{Seen, IsFinishedRun}
 use Rattle.trap_report.specs.Text.{report_of}
-use Rattle.trap_report.specs.Pieces.{Tells, IsTold, IsTakenTo, IsTakenAt, following}
+use Rattle.trap_report.specs.Pieces.{IsTold, IsTakenTo, IsTakenAt, following}
 use Rattle.trap_report.specs.declared.place.HeaderLine.{HeaderLine}
 use Rattle.trap_report.specs.declared.place.HeaderLine.TheVariants.{Version, Cores, Budget, Limit, Stack, Heap, Units}
 

@@ -5,7 +5,7 @@ ghost use Rattle.trap_report.specs.Lines.{hex, hex_digit};
 use itoa::{Buffer, Integer};
 use std::marker::Model;
 
-/// How many bytes a line has room for. The longest line of a report, a note, has 82.
+/// How many bytes a line has room for. The longest line of a report, a note, has 80.
 pub const ROOM: usize = 96;
 
 const SPACE: u8 = b' ';

@@ -1,5 +1,4 @@
-use Rattle.std.proofs.Common.{◌≡◌, ℕ, List, Option, length}
-use Rattle.std.specs.Io.KnownBytes.{Appends}
+use Rattle.std.proofs.Common.{length}
 use Rattle.trap_report.specs.Text.{text}
 use Rattle.trap_report.specs.Pieces.{left, IsTakenAt}
 use Rattle.trap_report.proofs.WriteLemmas.{WroteFront}

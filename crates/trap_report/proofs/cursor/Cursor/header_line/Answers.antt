@@ -1,5 +1,4 @@
 use Rattle.std.proofs.Common.{length, sym, ap, ◌∙◌, subst}
-use Rattle.machine.specs.Setups.{Setup}
 use Rattle.trap_report.specs.Text.{numbers_of, report_of}
 use Rattle.trap_report.specs.Pieces.{IsTakenAt}
 use Rattle.trap_report.specs.declared.place.Place.{Place}
