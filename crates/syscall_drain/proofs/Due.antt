@@ -1,8 +1,7 @@
 -- How many bytes wait for their place in the output after each unit.
-use Rattle.std.proofs.Common.{◌≡◌, ℕ, ◌+◌, ◌<◌, ◌≤◌, min, List, [], ◌∷◌, ◌++◌, length, Option, Some, None, Bool, true, false, ◌||◌, ◌==◌, not, if◌then◌else◌, nat_lt, refl, sym, ◌∙◌, ap, arith, length-append}
+use Rattle.std.proofs.Common.{◌≡◌, ℕ, ◌+◌, ◌≤◌, List, ◌++◌, length, Option, Some, None, Bool, true, false, ◌||◌, ◌==◌, not, if◌then◌else◌, nat_lt, refl, arith, length-append}
 use Rattle.std.specs.Prelude.{OnSome}
 use Rattle.elf_image.specs.Layout.{is_writable, fetched}
-use Rattle.rv_execute.specs.declared.op.Op.{Op}
 use Rattle.rv_execute.specs.declared.op.Taken.{Taken}
 use Rattle.rv_execute.specs.Harts.{HartState}
 use Rattle.syscall_drain.specs.Programs.{Program}

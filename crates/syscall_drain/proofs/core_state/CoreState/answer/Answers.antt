@@ -1,7 +1,7 @@
-use Rattle.std.proofs.Common.{rules, ◌≡◌, ℕ, ◌+◌, ◌≤◌, sym, subst, Option}
+use Rattle.std.proofs.Common.{◌≡◌, ℕ, ◌+◌, ◌≤◌, sym, subst, Option}
 use Rattle.std.specs.Prelude.{OnSome}
 use Rattle.syscall_drain.specs.Tasks.{Local}
-use Rattle.syscall_drain.specs.Local.{placed, answered}
+use Rattle.syscall_drain.specs.Local.{placed}
 use Rattle.syscall_drain.specs.Sound.{due}
 use Rattle.syscall_drain.specs.Cores.{local_of, budget_of}
 use Rattle.syscall_drain.proofs.Standing.{stands_on}
