@@ -19,3 +19,6 @@ pub use core_state::CoreState;
 pub use end::End;
 pub use guest::Guest;
 pub use phase::Phase;
+
+#[cfg(test)]
+mod tests;
