@@ -1,5 +1,5 @@
 -- The unit of an instruction goes with what the instruction asked.
-use Rattle.std.proofs.Common.{◌≡◌, ℕ, Option, Some, None, Bool, true, false, refl, sym, subst, ap, if◌then◌else◌}
+use Rattle.std.proofs.Common.{◌≡◌, ℕ, Option, Some, None, Bool, true, false, refl, sym, subst, if◌then◌else◌}
 use Rattle.elf_image.specs.Layout.{Layout, word_of, is_writable}
 use Rattle.rv_decode.specs.declared.insn.Insn.{Insn}
 use Rattle.rv_decode.specs.Ranges.{Fits}
@@ -11,7 +11,7 @@ use Rattle.rv_execute.specs.declared.ask.Ask.{Ask}
 use Rattle.rv_execute.specs.declared.ask.Ask.TheVariants.{Quiet, Touch, Ecall, Fault as AsksFault}
 use Rattle.rv_execute.specs.Harts.{HartState}
 use Rattle.rv_execute.specs.Instructions.{asked, IsFinishedBy}
-use Rattle.syscall_drain.specs.Tasks.{Task, Access, Faulted, only_loads, outside_fault, access_task, fault_task, asked_task}
+use Rattle.syscall_drain.specs.Tasks.{Task, Access, Faulted, only_loads, access_task, fault_task, asked_task}
 use Rattle.syscall_drain.specs.Sound.{IsAskedBy}
 
 either-access : (h : HartState) (insn : Insn) (word : ℕ) (op : Op) (loads may : Bool) → Fits insn → ((t : Taken) → IsFinishedBy (asked h insn) (Some t)) → IsAskedBy h (if loads then Access insn word op else if may then Access insn word op else Faulted StoreReadOnly insn)

@@ -1,8 +1,7 @@
 -- How many bytes wait for their place in the output after each unit.
-use Rattle.std.proofs.Common.{◌≡◌, ℕ, ◌+◌, ◌<◌, ◌≤◌, min, List, [], ◌∷◌, ◌++◌, length, Option, Some, None, Bool, true, false, ◌||◌, ◌==◌, not, if◌then◌else◌, nat_lt, refl, sym, ◌∙◌, ap, arith, length-append}
+use Rattle.std.proofs.Common.{◌≡◌, ap, sym, ℕ, ◌+◌, ◌≤◌, List, ◌++◌, length, Option, Some, None, Bool, true, false, ◌||◌, ◌==◌, not, if◌then◌else◌, nat_lt, refl, arith, length-append}
 use Rattle.std.specs.Prelude.{OnSome}
 use Rattle.elf_image.specs.Layout.{is_writable, fetched}
-use Rattle.rv_execute.specs.declared.op.Op.{Op}
 use Rattle.rv_execute.specs.declared.op.Taken.{Taken}
 use Rattle.rv_execute.specs.Harts.{HartState}
 use Rattle.syscall_drain.specs.Programs.{Program}
@@ -10,7 +9,10 @@ use Rattle.syscall_drain.specs.Buffers.{word_count, gather}
 use Rattle.syscall_drain.specs.Calls.{first_argument, buffer_start, byte_count, call_number, fails_at, is_mapped_at, read_phase, write_phase, call_phase, is_exit, bad_descriptor, bad_address, no_call}
 use Rattle.syscall_drain.specs.Tasks.{Local, Task, Over, Blanked, Faulted, Plain, Access, Decide, Judge, Claim, Fill, Gather, Return, fetched_task, phase_task, task_of}
 use Rattle.syscall_drain.specs.Local.{after_answer, answered, taken_of, stop_of, gathered_at, task_place, placed, bytes_taken}
-use Rattle.syscall_drain.specs.Sound.{due, due_in}
+use Rattle.syscall_drain.specs.Sound.{due, due_in, HasGathered, IsSound}
+use Rattle.rv_execute.specs.declared.op.Op.TheVariants.{Place}
+use Rattle.syscall_drain.specs.Local.{next_ask, task_ask}
+use Rattle.syscall_drain.specs.declared.ask.CoreAsk.TheVariants.{Touch as Touches}
 use Rattle.syscall_drain.specs.declared.end.End.{End}
 use Rattle.syscall_drain.specs.declared.phase.Phase.{Phase}
 use Rattle.syscall_drain.specs.declared.phase.Phase.TheVariants.{Running, ClaimInput, Storing, Gathering, Judging, ClaimOutput, ClaimBreak, Returning}
@@ -131,3 +133,47 @@ claimed-ending program h phase g u None answer = claimed-phase program h phase g
 pub due-claimed : (program : Program) (budget : ℕ) (l : Local) (answer : Answer) → OnSome (placed program l answer) (due (answered program budget l answer) ≡ 0)
 unfolding answered placed
 due-claimed program budget l answer = claimed-ending program l.hart l.phase l.gathered l.units l.ending answer
+
+claim-if : (spent : Bool) (place : ℕ) (P : Type 0) → P → OnSome (if spent then None else Some place) P
+claim-if true place P holds = tt
+claim-if false place P holds = holds
+
+whole-phase : (program : Program) (h : HartState) (phase : Phase) (g : List ℕ) (t : Taken) → OnSome (task_place (phase_task program h phase) t phase) (due_in phase (length g) ≡ length g)
+whole-phase program h Running g t = on-none _ _ (place-elsewhere (fetched_task program.layout h (fetched program.layout h.pc)) t)
+whole-phase program h ClaimInput g t = tt
+whole-phase program h (Storing index start count) g t = tt
+whole-phase program h (Gathering index) g t = tt
+whole-phase program h Judging g t = tt
+whole-phase program h ClaimOutput g t = claim-if t.spent t.old _ refl
+whole-phase program h ClaimBreak g t = tt
+whole-phase program h (Returning result) g t = tt
+
+whole-ending : (program : Program) (h : HartState) (phase : Phase) (g : List ℕ) (u : ℕ) (ending : Option End) (t : Taken) → OnSome (task_place (task_of program (record { hart = h; phase = phase; gathered = g; units = u; ending = ending })) t phase) (due_in phase (length g) ≡ length g)
+unfolding task_of
+whole-ending program h phase g u (Some end) t = tt
+whole-ending program h phase g u None t = whole-phase program h phase g t
+
+-- a unit that places bytes places all that wait
+pub due-placed : (program : Program) (l : Local) (answer : Answer) → OnSome (placed program l answer) (due l ≡ length l.gathered)
+unfolding placed
+due-placed program l answer = whole-ending program l.hart l.phase l.gathered l.units l.ending (taken_of answer)
+
+asked-phase : (program : Program) (h : HartState) (phase : Phase) (g : List ℕ) (u : ℕ) (t : Taken) → HasGathered h g phase → OnSome (task_place (phase_task program h phase) t phase) (task_ask (going h phase g u) (phase_task program h phase) ≡ Touches 1 (Place (length g)))
+asked-phase program h Running g u t gathers = on-none _ _ (place-elsewhere (fetched_task program.layout h (fetched program.layout h.pc)) t)
+asked-phase program h ClaimInput g u t gathers = tt
+asked-phase program h (Storing index start count) g u t gathers = tt
+asked-phase program h (Gathering index) g u t gathers = tt
+asked-phase program h Judging g u t gathers = tt
+asked-phase program h ClaimOutput g u t gathers = claim-if t.spent t.old _ (ap (λ (n : ℕ). Touches 1 (Place n)) (sym gathers))
+asked-phase program h ClaimBreak g u t gathers = tt
+asked-phase program h (Returning result) g u t gathers = tt
+
+asked-ending : (program : Program) (h : HartState) (phase : Phase) (g : List ℕ) (u : ℕ) (ending : Option End) (t : Taken) → HasGathered h g phase → OnSome (task_place (task_of program (record { hart = h; phase = phase; gathered = g; units = u; ending = ending })) t phase) (task_ask (record { hart = h; phase = phase; gathered = g; units = u; ending = ending }) (task_of program (record { hart = h; phase = phase; gathered = g; units = u; ending = ending })) ≡ Touches 1 (Place (length g)))
+unfolding task_of
+asked-ending program h phase g u (Some end) t gathers = tt
+asked-ending program h phase g u None t gathers = asked-phase program h phase g u t gathers
+
+-- and they are as many as it claims
+pub ask-placed : (program : Program) (l : Local) (answer : Answer) → IsSound l → OnSome (placed program l answer) (next_ask program l ≡ Touches 1 (Place (length l.gathered)))
+unfolding placed next_ask
+ask-placed program l answer sound = asked-ending program l.hart l.phase l.gathered l.units l.ending (taken_of answer) sound.gathers

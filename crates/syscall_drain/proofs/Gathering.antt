@@ -1,8 +1,7 @@
 -- The bytes that a read of a write call adds, and how many they are.
-use Rattle.std.proofs.Common.{◌≡◌, ℕ, ◌+◌, ◌-◌, ◌*◌, ◌/◌, ◌%◌, ◌^◌, ◌<◌, ◌≤◌, min, List, [], ◌∷◌, ◌++◌, length, Bool, true, false, ◌&&◌, if◌then◌else◌, nat_lt, nat_le, refl, sym, ◌∙◌, ap, subst, arith, append_assoc, inl, inr}
-use Rattle.std.proofs.lemmas.Bool.{cases_lt}
+use Rattle.std.proofs.Common.{◌≡◌, ℕ, ◌+◌, ◌-◌, ◌*◌, ◌%◌, ◌≤◌, min, List, [], ◌++◌, length, Bool, true, false, ◌&&◌, if◌then◌else◌, nat_lt, nat_le, refl, sym, ◌∙◌, ap, subst, arith, append_assoc}
 use Rattle.std.proofs.lemmas.Bool.Decides.{nat_tests}
-use Rattle.syscall_drain.specs.Buffers.{place_of, covers, byte_if, gather}
+use Rattle.syscall_drain.specs.Buffers.{covers, byte_if, gather}
 
 byte_if-append : (covered : Bool) (j word : ℕ) (rest : List ℕ) → byte_if covered j word [] ++ rest ≡ byte_if covered j word rest
 byte_if-append true j word rest = refl

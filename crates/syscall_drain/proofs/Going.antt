@@ -1,11 +1,11 @@
 -- A unit raises the count of units by one, and a core that has not ended afterwards has some left.
-use Rattle.std.proofs.Common.{◌≡◌, ℕ, ◌+◌, ◌<◌, ◌≤◌, List, length, Option, Some, None, Bool, true, false, ◌==◌, if◌then◌else◌, refl, sym, ◌∙◌, ap, subst, arith}
+use Rattle.std.proofs.Common.{◌≡◌, ℕ, ◌+◌, ◌<◌, ◌≤◌, List, Option, Some, None, Bool, true, false, ◌==◌, if◌then◌else◌, refl, sym, ap, subst, arith}
 use Rattle.std.specs.Option.{ForNone}
 use Rattle.std.proofs.lemmas.Bool.Decides.{nat_tests}
 use Rattle.rv_execute.specs.Harts.{HartState}
 use Rattle.syscall_drain.specs.Programs.{Program}
 use Rattle.syscall_drain.specs.Calls.{is_exit}
-use Rattle.syscall_drain.specs.Tasks.{Local, Task, Over, Blanked, Faulted, Plain, Access, Decide, Judge, Claim, Fill, Gather, Return, task_of, ending_task}
+use Rattle.syscall_drain.specs.Tasks.{Local, Task, Over, Blanked, Faulted, Plain, Access, Decide, Judge, Claim, Fill, Gather, Return, task_of}
 use Rattle.syscall_drain.specs.Local.{Fits, next_ask, after_answer, answered, taken_of, stop_of, budget_end}
 use Rattle.syscall_drain.specs.Sound.{IsSound}
 use Rattle.syscall_drain.proofs.Soundness.{sound_answered}

@@ -1,5 +1,5 @@
 -- A buffer of at most 4,096 bytes lies on the pages of its first and of its last byte.
-use Rattle.std.proofs.Common.{◌≡◌, ℕ, ◌+◌, ◌-◌, ◌/◌, ◌<◌, ◌≤◌, List, length, get_or, Option, Some, None, Bool, true, false, ◌&&◌, ◌||◌, not, if◌then◌else◌, nat_lt, refl, sym, ◌∙◌, ap, subst, inl, inr, ◌⊎◌, arith, is_some, ◌^◌, zero-add, ◌%◌}
+use Rattle.std.proofs.Common.{◌≡◌, ℕ, ◌+◌, ◌-◌, ◌/◌, ◌<◌, ◌≤◌, length, get_or, Some, None, Bool, true, false, ◌&&◌, ◌||◌, not, if◌then◌else◌, nat_lt, refl, ◌∙◌, ap, inl, inr, ◌⊎◌, arith, is_some, ◌^◌, zero-add, ◌%◌}
 use Rattle.std.specs.List.{list_any, range_with_len}
 use Rattle.std.proofs.lemmas.List.FromFn.{length-range_with_len, get_or-range_with_len}
 use Rattle.std.proofs.lemmas.List.Folds.{list_any_none, list_any_at}

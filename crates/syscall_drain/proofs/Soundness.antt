@@ -1,12 +1,11 @@
 -- What holds of a core at every moment holds after each unit.
-use Rattle.std.proofs.Common.{◌≡◌, ℕ, ◌+◌, ◌-◌, ◌*◌, ◌/◌, ◌%◌, ◌<◌, ◌≤◌, min, List, [], ◌∷◌, ◌++◌, length, Option, Some, None, Bool, true, false, ◌||◌, not, ◌==◌, if◌then◌else◌, nat_lt, refl, sym, ◌∙◌, ap, arith, length-append}
+use Rattle.std.proofs.Common.{◌≡◌, ℕ, ◌+◌, ◌-◌, ◌*◌, ◌/◌, ◌%◌, ◌<◌, ◌≤◌, min, List, ◌++◌, length, Option, Some, None, Bool, true, false, ◌||◌, not, ◌==◌, if◌then◌else◌, nat_lt, refl, ◌∙◌, arith, length-append}
 use Rattle.std.proofs.lemmas.Bool.Decides.{nat_tests}
 use Rattle.std.proofs.lemmas.Bool.{or_parts}
 use Rattle.elf_image.specs.Layout.{Layout, word_of, is_writable, fetched}
 use Rattle.rv_decode.specs.declared.insn.Insn.{Insn}
 use Rattle.rv_decode.specs.Rows.{decoded}
 use Rattle.rv_execute.specs.declared.op.Op.{Op}
-use Rattle.rv_execute.specs.declared.op.Taken.{Taken}
 use Rattle.rv_execute.specs.declared.fault.Fault.{Fault}
 use Rattle.rv_execute.specs.declared.fault.Fault.TheVariants.{Illegal, FetchMisaligned, FetchOutside, LoadMisaligned, LoadOutside, StoreMisaligned, StoreOutside, StoreReadOnly, Break}
 use Rattle.rv_execute.specs.declared.ask.Ask.{Ask}
@@ -17,7 +16,7 @@ use Rattle.syscall_drain.specs.Programs.{Program}
 use Rattle.syscall_drain.specs.Buffers.{word_count, gather}
 use Rattle.syscall_drain.specs.Calls.{first_argument, buffer_start, byte_count, call_number, fails_at, is_mapped_at, read_phase, write_phase, call_phase, is_exit, bad_descriptor, bad_address, no_call}
 use Rattle.syscall_drain.specs.Tasks.{Local, Task, Over, Blanked, Faulted, Plain, Access, Decide, Judge, Claim, Fill, Gather, Return, only_loads, access_task, fault_task, asked_task, decoded_task, fetched_task, phase_task, task_of}
-use Rattle.syscall_drain.specs.Local.{after_answer, answered, taken_of, stop_of, gathered_at, ended, spent_unit, bytes_taken, input_phase, fill_phase, gather_phase}
+use Rattle.syscall_drain.specs.Local.{after_answer, answered, taken_of, stop_of, gathered_at, input_phase}
 use Rattle.syscall_drain.specs.Sound.{IsReady, HasGathered, HasBuffer, IsSound}
 use Rattle.syscall_drain.specs.declared.end.End.{End}
 use Rattle.syscall_drain.specs.declared.phase.Phase.{Phase}

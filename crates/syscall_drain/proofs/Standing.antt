@@ -1,8 +1,7 @@
 -- A core that stands at a list of answers stands after one more unit at the list with its answer.
-use Rattle.std.proofs.Common.{◌≡◌, ℕ, List, [], ◌∷◌, ◌++◌, Option, Some, None, refl, sym, ◌∙◌, ap, subst}
-use Rattle.rv_execute.specs.Harts.{HartState}
+use Rattle.std.proofs.Common.{◌≡◌, ℕ, List, [], ◌∷◌, ◌++◌, refl, sym, ◌∙◌, ap, subst}
 use Rattle.syscall_drain.specs.Programs.{Program}
-use Rattle.syscall_drain.specs.Tasks.{Local, task_of, opening_local}
+use Rattle.syscall_drain.specs.Tasks.{Local, opening_local}
 use Rattle.syscall_drain.specs.Local.{Fits, next_ask, answered, local_after, IsLocalRun}
 use Rattle.syscall_drain.specs.Cores.{local_of, budget_of, core_of, StandsAt}
 use Rattle.syscall_drain.specs.declared.ask.Answer.{Answer}

@@ -1,5 +1,5 @@
 -- The number of a word is below the count of words.
-use Rattle.std.proofs.Common.{◌≡◌, ℕ, ◌+◌, ◌*◌, ◌/◌, ◌%◌, ◌^◌, ◌<◌, ◌≤◌, Option, Some, None, Bool, true, false, if◌then◌else◌, refl, sym, subst, arith}
+use Rattle.std.proofs.Common.{◌≡◌, ℕ, ◌+◌, ◌*◌, ◌/◌, ◌%◌, ◌^◌, ◌<◌, Some, None, Bool, true, false, if◌then◌else◌, refl, sym, subst, arith}
 use Rattle.elf_image.specs.Layout.{Layout, is_mapped, count_below, word_of, words_of, page_of}
 use Rattle.syscall_drain.specs.Tasks.{Local, Task, Over, Blanked, Faulted, Plain, Access, Decide, Judge, Claim, Fill, Gather, Return}
 use Rattle.syscall_drain.specs.Local.{task_ask}

@@ -16,7 +16,7 @@ use crate::local_core::LocalCore;
 use crate::phase::Phase;
 use crate::task::Task;
 use elf_image::Image;
-use rv_execute::Hart;
+use rv_execute::{Hart, Op};
 
 /// One core of a guest, but for its tags. It asks for each unit, and goes on by the answer.
 #[derive(Drop)]
@@ -147,6 +147,10 @@ impl CoreState {
         // At most four bytes more wait for their place, and none where the unit placed them.
         ensures due { due (local_of self.new) ≤ due (local_of self.old) + 4 }
         ensures claimed { OnSome result.placed (due (local_of self.new) ≡ 0) }
+
+        // It places all that wait, which are as many as it claimed.
+        ensures whole { OnSome result.placed (due (local_of self.old) ≡ length (local_of self.old).gathered) }
+        ensures claim { OnSome result.placed (next_ask guest.now (local_of self.old) ≡ CoreAsk.Touch 1 (Op.Place (length (local_of self.old).gathered))) }
     {
         self.spend(guest, given)
     }

@@ -19,3 +19,7 @@ pub use core_state::CoreState;
 pub use end::End;
 pub use guest::Guest;
 pub use phase::Phase;
+pub use task::Task;
+
+#[cfg(test)]
+mod tests;

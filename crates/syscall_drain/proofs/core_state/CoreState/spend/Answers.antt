@@ -1,4 +1,4 @@
-use Rattle.std.proofs.Common.{ℕ, ◌<◌, arith}
+use Rattle.std.proofs.Common.{◌<◌}
 use Rattle.syscall_drain.specs.LocalCores.{local_seen}
 use Rattle.syscall_drain.specs.Sound.{IsSound}
 use Rattle.syscall_drain.proofs.Going.{spent_kept, going_kept, sound_kept, going-fits}

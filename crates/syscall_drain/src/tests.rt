@@ -1,0 +1,122 @@
+ghost use Rattle.std.specs.Prelude.{◌≡◌, IfSome};
+ghost use Rattle.syscall_drain.specs.Local.{Fits, taken_of};
+
+use super::*;
+use elf_image::load;
+use record_lane::{MeetKind, Record, Reply};
+use rv_execute::{Op, Taken};
+use std::test::Fail;
+
+/// A program at 0x10000 that writes `hi` and exits: the file's header, its one program header, ten words.
+const HI: [u32; 31] = [
+    0x464c_457f,
+    0x0001_0101,
+    0,
+    0,
+    0x00f3_0002,
+    1,
+    0x0001_0000,
+    52,
+    0,
+    0,
+    0x0020_0034,
+    1,
+    0,
+    1,
+    84,
+    0x0001_0000,
+    0x0001_0000,
+    40,
+    40,
+    7,
+    4,
+    0x0001_05b7,
+    0x0245_8593,
+    0x0010_0513,
+    0x0030_0613,
+    0x0400_0893,
+    0x0000_0073,
+    0x0000_0513,
+    0x05d0_0893,
+    0x0000_0073,
+    0x000a_6968,
+];
+
+/// An answer to an ask: an access is the first to its word and finds this word.
+fn answer_to(ask: CoreAsk, word: u32) -> Option<Answer>
+    ensures fits { IfSome result (Fits ask) }
+    ensures first { IfSome result (λ given. (taken_of given).number ≡ 0) }
+{
+    match ask {
+        CoreAsk::Quiet => Some(Answer::Nothing),
+        CoreAsk::Touch { .. } => Some(Answer::Taken(Taken {
+            number: 0,
+            old: word,
+            spent: false,
+        })),
+        CoreAsk::Meet { .. } => Some(Answer::Reply(Reply {
+            stop: false,
+            trap: None,
+            tags: 0,
+            buffer: 0,
+        })),
+        CoreAsk::Ended => None,
+    }
+}
+
+/// Spends a unit, and says what it asked.
+fn spend(core: &mut CoreState, guest: &Guest, word: u32) -> Option<CoreAsk> {
+    let ask = core.next(guest)?;
+    let given = answer_to(ask, word)?;
+    core.answer(guest, given);
+    Some(ask)
+}
+
+#[test]
+fn hi_prints_and_exits(rt: HostRuntime) -> Result<(), Fail> {
+    let mut bytes = Vec::new(rt.alloc());
+    for word in HI {
+        bytes.extend_from_slice(&word.to_le_bytes())?;
+    }
+    let image = load(rt.alloc(), &bytes, 1, 16, 256)?;
+    assert_eq!(rt; image.entry() % 4, 0);
+    let guest = Guest::new(image, Vec::new(rt.alloc()));
+    let mut core = CoreState::create(0, &guest, 1048576);
+    let meeting = |step, pc, call, kind| CoreAsk::Meet {
+        item: Record::Meet {
+            step,
+            pc,
+            call,
+            kind,
+        },
+    };
+    let asks = [
+        CoreAsk::Quiet,
+        CoreAsk::Quiet,
+        CoreAsk::Quiet,
+        CoreAsk::Quiet,
+        CoreAsk::Quiet,
+        meeting(5, 0x0001_0014, 64, MeetKind::Call),
+        CoreAsk::Touch {
+            word: 12,
+            op: Op::Read,
+        },
+        meeting(7, 0x0001_0014, 64, MeetKind::Verdict),
+        CoreAsk::Touch {
+            word: 1,
+            op: Op::Place { len: 3 },
+        },
+        CoreAsk::Quiet,
+        CoreAsk::Quiet,
+        CoreAsk::Quiet,
+        meeting(12, 0x0001_0020, 93, MeetKind::Call),
+    ];
+    for ask in asks {
+        assert_eq!(rt; spend(&mut core, &guest, 0x000a_6968), Some(ask));
+    }
+    assert_eq!(rt; core.next(&guest), Some(CoreAsk::Ended));
+    assert_eq!(rt; core.end(), Some(End::Exit(0)));
+    assert_eq!(rt; core.units(), 13);
+    assert_eq!(rt; core.gathered(), b"hi\n".as_slice());
+    Ok(())
+}
