@@ -1,7 +1,7 @@
 //! One core: its units, one after another.
 ghost use Rattle.std.specs.Prelude.{◌≡◌, ◌<◌, ◌≤◌, ◌+◌, ◌-◌, ◌%◌, ◌++◌, ◌∷◌, [], ◌↔◌, List, IsTrue, IsSome, IfSome, OnSome, length};
 ghost use Rattle.std.specs.Option.{ForNone};
-ghost use Rattle.elf_image.specs.Layout.{stack_top, entry_of};
+ghost use Rattle.elf_image.specs.Layout.{stack_top};
 ghost use Rattle.rv_execute.specs.Harts.{state_of};
 ghost use Rattle.syscall_drain.specs.Tasks.{opening_hart};
 ghost use Rattle.syscall_drain.specs.Sound.{IsReady, HasGathered};
@@ -41,7 +41,6 @@ fn stack_pointer(core: u8) -> u32
 
 /// The hart that a core begins with.
 fn opening_hart(image: &Image, core: u8) -> Hart
-    requires { entry_of image.now % 4 ≡ 0 }
     ensures { state_of result ≡ opening_hart image.now core }
 {
     let mut regs = [0; 32];
@@ -70,7 +69,6 @@ impl CoreState {
         requires core { core < guest.now.layout.cores }
         requires some { 1 ≤ budget }
         requires most { budget ≤ 1048576 }
-        requires entry { entry_of guest.now.layout % 4 ≡ 0 }
         ensures opening { local_of result ≡ opening_local guest.now core }
         ensures budget { budget_of result ≡ budget }
         ensures core { core_of result ≡ core }
