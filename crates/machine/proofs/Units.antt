@@ -12,7 +12,9 @@ use Rattle.syscall_drain.specs.declared.ask.CoreAsk.TheVariants.{Quiet as AsksNo
 use Rattle.syscall_drain.specs.declared.ask.Answer.{Answer}
 use Rattle.syscall_drain.specs.Calls.{is_exit}
 use Rattle.syscall_drain.specs.Programs.{Program}
-use Rattle.syscall_drain.specs.Tasks.{Local, Task, Over, Blanked, Faulted, Plain, Access, Decide, Judge, Claim, Fill, Gather, Return, task_of}
+use Rattle.syscall_drain.specs.Tasks.{Local, task_of}
+use Rattle.syscall_drain.specs.declared.task.Task.{Task}
+use Rattle.syscall_drain.specs.declared.task.Task.TheVariants.{Over, Blanked, Faulted, Plain, Access, Decide, Judge, Claim, Fill, Gather, Return}
 use Rattle.syscall_drain.specs.Local.{decided, after_taken, touched_by, after_answer, stop_of, taken_of, budget_end, answered}
 use Rattle.machine.specs.Steps.{note_of, notes_of}
 
