@@ -6,3 +6,8 @@ pub mod Output
 pub mod SetAt
 pub mod Units
 pub mod Reached
+pub mod Plain
+pub mod OffOutput
+pub mod Placed
+pub mod Along
+pub mod Kept

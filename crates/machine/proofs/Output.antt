@@ -5,12 +5,7 @@ use Rattle.std.proofs.lemmas.List.FromFn.{fill_by_all}
 use Rattle.std.proofs.lemmas.Bool.{cases_lt}
 use Rattle.std.proofs.lemmas.Bool.Decides.{nat_tests}
 use Rattle.machine.specs.States.{Piece, Word}
-use Rattle.machine.specs.Outcomes.{holds, byte_at, output_of}
-
--- the bytes of pieces, end to end
-abbrev pub joined : List Piece → List ℕ
-joined [] = []
-joined (piece ∷ pieces) = piece.bytes ++ joined pieces
+use Rattle.machine.specs.Outcomes.{holds, joined, byte_at, output_of}
 
 -- the first piece stands at this place, and each other where the one before ends
 abbrev pub FollowFrom : ℕ → List Piece → Type 0

@@ -1,5 +1,5 @@
 -- The outcome of a state: each core's end, units, first trap and notes, the guest's output, and the class of all these.
-use Rattle.std.specs.Prelude.{ℕ, ◌+◌, ◌-◌, Bool, true, false, ◌&&◌, nat_le, nat_lt, Option, Some, is_some, List, [], ◌∷◌, map, length, slice_index, if◌then◌else◌}
+use Rattle.std.specs.Prelude.{ℕ, ◌+◌, ◌-◌, Bool, true, false, ◌&&◌, nat_le, nat_lt, Option, Some, is_some, List, [], ◌∷◌, ◌++◌, map, length, slice_index, if◌then◌else◌}
 use Rattle.std.specs.List.{list_any, range_with_len}
 use Rattle.record_lane.specs.declared.reply.Trap.{Trap}
 use Rattle.record_lane.specs.declared.note.CallNote.{CallNote}
@@ -20,6 +20,11 @@ summary_of c = record { ending = c.local.ending; units = c.local.units; trap = c
 -- the cores' summaries in their order
 abbrev pub summaries : Setup → State → List Summary
 summaries s t = map (λ c. summary_of (t.cores c)) (range_with_len 0 (cores_of s))
+
+-- the bytes of pieces, end to end
+abbrev pub joined : List Piece → List ℕ
+joined [] = []
+joined (piece ∷ pieces) = piece.bytes ++ joined pieces
 
 -- the byte at a place of the output: the piece that has the place has it
 abbrev pub holds : Piece → ℕ → Bool
