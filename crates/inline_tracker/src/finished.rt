@@ -1,7 +1,8 @@
 ghost use Rattle.std.specs.Prelude.{◌≡◌, ◌<◌, ◌≤◌, length, slice_get, Some};
 ghost use Rattle.machine.specs.Outcomes.{class_of};
 
-use crate::status::class_of_cores;
+use crate::seat::Seat;
+use crate::status::class_of_seats;
 use order_core::{Bytes, CoreLog, Order};
 use record_lane::{Notes, Trap};
 use std::marker::Model;
@@ -19,24 +20,21 @@ pub struct CoreOutcome {
 /// A finished run: the order of its units, the log and the outcome of each core, and the guest's output.
 #[derive(Drop)]
 pub struct Finished {
-    order: Order,
-    logs: Vec<CoreLog>,
-    cores: Vec<CoreOutcome>,
-    output: Bytes,
+    pub(crate) order: Order,
+    pub(crate) seats: Vec<Seat>,
+    pub(crate) output: Bytes,
 }
 
 impl Model for Finished {
-    ghost use Rattle.std.specs.Prelude.{map};
-    ghost use Rattle.order_core.specs.Logs.{logs_of};
     ghost use Rattle.inline_tracker.specs.Finished.{Seen};
-    ghost use Rattle.inline_tracker.specs.Outcome.{summary_of};
+    ghost use Rattle.inline_tracker.specs.Seats.{logs_in, summaries_in};
 
     ghost Value = { Seen };
 
     ghost view = { λ finished. record {
       order = finished.order.items;
-      logs = logs_of finished.logs.items;
-      cores = map summary_of finished.cores.items;
+      logs = logs_in finished.seats.items;
+      cores = summaries_in finished.seats.items;
       output = finished.output.items;
     } };
 }
@@ -56,7 +54,7 @@ impl Finished {
         requires { core < length self.now.logs }
         ensures { slice_get self.now.logs core ≡ Some result.now.items }
     {
-        &self.logs[core as usize]
+        &self.seats[core as usize].log
     }
 
     /// How a core ended.
@@ -64,7 +62,7 @@ impl Finished {
         requires { core < length self.now.cores }
         ensures { slice_get self.now.cores core ≡ Some (summary_of result.now) }
     {
-        &self.cores[core as usize]
+        &self.seats[core as usize].outcome
     }
 
     /// What the guest wrote.
@@ -81,5 +79,5 @@ pub fn status_of(finished: &Finished) -> u8
     ensures class { result ≡ class_of finished.now.cores }
     ensures within { result ≤ 5 }
 {
-    class_of_cores(finished.cores.as_slice())
+    class_of_seats(finished.seats.as_slice())
 }

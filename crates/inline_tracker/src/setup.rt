@@ -39,7 +39,8 @@ impl Setup {
     }
 
     pub fn guest(&self) -> &Guest
-        ensures { result.now ≡ self.now.program }
+        ensures guest { result.now ≡ self.now.program }
+        ensures unruled { self.now.policy ≡ [] }
     {
         &self.guest
     }
@@ -47,6 +48,7 @@ impl Setup {
     pub fn budget(&self) -> u32
         ensures budget { result ≡ self.now.budget }
         ensures within { (1 ≤ result) × (result ≤ 1048576) }
+        ensures limits { AreLimits self.now.budget self.now.limit }
     {
         self.budget
     }

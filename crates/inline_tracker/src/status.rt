@@ -1,10 +1,10 @@
 //! The status class of a finished run.
-ghost use Rattle.std.specs.Prelude.{◌≡◌, ◌≤◌, Some, map, is_some};
+ghost use Rattle.std.specs.Prelude.{◌≡◌, ◌≤◌, Some, is_some};
 ghost use Rattle.std.specs.List.{list_any};
 ghost use Rattle.machine.specs.Outcomes.{class_of, is_fault, is_spent, is_budget, is_failure};
-ghost use Rattle.inline_tracker.specs.Outcome.{summary_of};
+ghost use Rattle.inline_tracker.specs.Seats.{summaries_in};
 
-use crate::finished::CoreOutcome;
+use crate::seat::Seat;
 use syscall_drain::End;
 
 fn is_fault(end: End) -> bool
@@ -31,50 +31,50 @@ fn is_failure(end: End) -> bool
     matches!(end, End::Exit(code) if code > 0)
 }
 
-fn some_trap(cores: &[CoreOutcome]) -> bool
-    ensures { result ≡ list_any (λ core. is_some core.trap) cores.now }
+fn some_trap(seats: &[Seat]) -> bool
+    ensures { result ≡ list_any (λ seat. is_some seat.outcome.trap) seats.now }
 {
-    cores.iter().any(|core| core.trap.is_some())
+    seats.iter().any(|seat| seat.outcome.trap.is_some())
 }
 
-fn some_fault(cores: &[CoreOutcome]) -> bool
-    ensures { result ≡ list_any (λ core. is_fault (Some core.end)) cores.now }
+fn some_fault(seats: &[Seat]) -> bool
+    ensures { result ≡ list_any (λ seat. is_fault (Some seat.outcome.end)) seats.now }
 {
-    cores.iter().any(|core| is_fault(core.end))
+    seats.iter().any(|seat| is_fault(seat.outcome.end))
 }
 
-fn some_spent(cores: &[CoreOutcome]) -> bool
-    ensures { result ≡ list_any (λ core. is_spent (Some core.end)) cores.now }
+fn some_spent(seats: &[Seat]) -> bool
+    ensures { result ≡ list_any (λ seat. is_spent (Some seat.outcome.end)) seats.now }
 {
-    cores.iter().any(|core| is_spent(core.end))
+    seats.iter().any(|seat| is_spent(seat.outcome.end))
 }
 
-fn some_budget(cores: &[CoreOutcome]) -> bool
-    ensures { result ≡ list_any (λ core. is_budget (Some core.end)) cores.now }
+fn some_budget(seats: &[Seat]) -> bool
+    ensures { result ≡ list_any (λ seat. is_budget (Some seat.outcome.end)) seats.now }
 {
-    cores.iter().any(|core| is_budget(core.end))
+    seats.iter().any(|seat| is_budget(seat.outcome.end))
 }
 
-fn some_failure(cores: &[CoreOutcome]) -> bool
-    ensures { result ≡ list_any (λ core. is_failure (Some core.end)) cores.now }
+fn some_failure(seats: &[Seat]) -> bool
+    ensures { result ≡ list_any (λ seat. is_failure (Some seat.outcome.end)) seats.now }
 {
-    cores.iter().any(|core| is_failure(core.end))
+    seats.iter().any(|seat| is_failure(seat.outcome.end))
 }
 
 #[tactic(auto, using(crate::proofs::Lists::list_any_map))]
-pub(crate) fn class_of_cores(cores: &[CoreOutcome]) -> u8
-    ensures class { result ≡ class_of (map summary_of cores.now) }
+pub(crate) fn class_of_seats(seats: &[Seat]) -> u8
+    ensures class { result ≡ class_of (summaries_in seats.now) }
     ensures within { result ≤ 5 }
 {
-    if some_trap(cores) {
+    if some_trap(seats) {
         2
-    } else if some_fault(cores) {
+    } else if some_fault(seats) {
         3
-    } else if some_spent(cores) {
+    } else if some_spent(seats) {
         5
-    } else if some_budget(cores) {
+    } else if some_budget(seats) {
         4
-    } else if some_failure(cores) {
+    } else if some_failure(seats) {
         1
     } else {
         0

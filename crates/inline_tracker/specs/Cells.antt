@@ -1,0 +1,22 @@
+-- The words of the tracker's memory, and what an access finds and leaves.
+use Rattle.std.specs.Prelude.{ℕ, ◌+◌, List, slice_index_or, nat_le, if◌then◌else◌}
+use Rattle.elf_image.specs.Layout.{Layout, first_word}
+use Rattle.rv_execute.specs.declared.op.Op.{Op}
+use Rattle.rv_execute.specs.declared.op.Taken.{Taken}
+use Rattle.rv_execute.specs.Payloads.{changed}
+use Rattle.inline_tracker.specs.declared.memory.Cell.{Cell}
+
+abbrev pub first_cell : Layout → ℕ → Cell
+first_cell layout word = record { payload = first_word layout word; count = 0 }
+
+abbrev pub cell_of : List Cell → ℕ → Cell
+cell_of cells word = slice_index_or cells word (record { payload = 0; count = 0 })
+
+abbrev pub found : ℕ → Cell → Taken
+found limit cell = record { number = cell.count; old = cell.payload; spent = nat_le limit cell.count }
+
+abbrev pub cell_after : ℕ → Op → Cell → Cell
+cell_after limit op cell = record {
+  payload = if nat_le limit cell.count then cell.payload else changed op cell.count cell.payload;
+  count = cell.count + 1;
+}
