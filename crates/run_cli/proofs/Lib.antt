@@ -1,0 +1,2 @@
+mod ThreeWords
+pub mod Plain

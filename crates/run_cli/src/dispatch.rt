@@ -1,0 +1,72 @@
+//! What the program does with the words of its command line.
+ghost use Rattle.std.specs.Prelude.{◌≡◌, map, string_bytes};
+ghost use Rattle.run_cli.specs.declared.ending.Ending.{Ending as EndingSeen};
+ghost use Rattle.run_cli.specs.Endings.{Ended, status_of};
+
+use crate::deliver::{deliver, refuse};
+use crate::ending::Ending;
+use crate::prepare::prepare;
+use outside::{Files, Sink};
+use std::alloc::Global;
+
+/// The status of an ending.
+fn status(ending: Ending) -> u8
+    ensures { result ≡ status_of ending }
+{
+    match ending {
+        Ending::Class(class) => class,
+        Ending::Words => 64,
+        Ending::Image => 65,
+        Ending::Later => 70,
+        Ending::Memory => 71,
+        Ending::Read => 74,
+        Ending::Write => 75,
+    }
+}
+
+/// Does what the words say, up to its ending.
+fn conclude<F: Files, O: Sink, R: Sink>(
+    alloc: Global,
+    words: &[String],
+    files: &mut F,
+    out: &mut O,
+    report: &mut R,
+) -> Ending
+    ensures { Ended (map string_bytes words.now)
+        (record { held = F.held files.old; faults = F.faults files.old })
+        (record { held = F.held files.new; faults = F.faults files.new })
+        (record { out = record { written = O.written out.old; faults = O.faults out.old }; report = record { written = R.written report.old; faults = R.faults report.old } })
+        (record { out = record { written = O.written out.new; faults = O.faults out.new }; report = record { written = R.written report.new; faults = R.faults report.new } })
+        result }
+{
+    match prepare(alloc, words, files) {
+        Ok(run) => deliver(&run, out, report),
+        Err(ending) => {
+            refuse(ending, report);
+            ending
+        }
+    }
+}
+
+/// Runs the image that the words name, writes the guest's output to `out` and then the report of the run to
+/// `report`, and answers the class of its outcome. A refusal writes its one line to `report` and nothing to `out`.
+///
+/// The statuses: 0 to 5 the class; 64 other words; 65 an image of fewer than 52 bytes; 70 an image or a unit of a
+/// kind that is not built yet; 71 want of memory; 74 the image could not be read; 75 `out` or `report` could not be
+/// written whole.
+pub fn command<F: Files, O: Sink, R: Sink>(
+    alloc: Global,
+    words: &[String],
+    files: &mut F,
+    out: &mut O,
+    report: &mut R,
+) -> u8
+    ensures ended { (ending : EndingSeen) × (result ≡ status_of ending) × Ended (map string_bytes words.now)
+        (record { held = F.held files.old; faults = F.faults files.old })
+        (record { held = F.held files.new; faults = F.faults files.new })
+        (record { out = record { written = O.written out.old; faults = O.faults out.old }; report = record { written = R.written report.old; faults = R.faults report.old } })
+        (record { out = record { written = O.written out.new; faults = O.faults out.new }; report = record { written = R.written report.new; faults = R.faults report.new } })
+        ending }
+{
+    status(conclude(alloc, words, files, out, report))
+}

@@ -1,0 +1,32 @@
+//! Runs a guest program, writes its output, and then a report of its run.
+#![tactic(auto)]
+
+mod deliver;
+mod dispatch;
+mod ending;
+mod image;
+mod prepare;
+mod words;
+
+use dispatch::command;
+use outside::{HostFiles, HostSink};
+use std::process::ExitCode;
+use std::{env, io};
+
+/// The status where the words of the command line cannot be had from the system.
+const NO_WORDS: u8 = 72;
+
+fn words_of(rt: &HostRuntime) -> io::Result<Vec<String>> {
+    let words = env::args(rt)?.skip(1).collect(rt.alloc())?;
+    Ok(words)
+}
+
+fn main(rt: HostRuntime) -> ExitCode {
+    let Ok(words) = words_of(&rt) else {
+        return ExitCode::from(NO_WORDS);
+    };
+    let mut files = HostFiles::new(&rt);
+    let mut out = HostSink::new(rt.stdout());
+    let mut report = HostSink::new(rt.stderr());
+    ExitCode::from(command(rt.alloc(), &words, &mut files, &mut out, &mut report))
+}
