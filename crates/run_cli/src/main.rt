@@ -6,6 +6,8 @@ mod dispatch;
 mod ending;
 mod image;
 mod prepare;
+#[cfg(test)]
+mod tests;
 mod words;
 
 use dispatch::command;
