@@ -1,0 +1,67 @@
+-- A ticket history: all changes of a table's words in one order, in which each word's changes are numbered 0, 1, 2 and so on,
+-- each finds what the one before left, and no caller goes on after a spent number (tickets as in Reed and Kanodia, 1979).
+use Rattle.std.specs.Prelude.{◌≡◌, ℕ, zero, suc, ◌+◌, ◌<◌, ◌==◌, nat_lt, nat_le, if◌then◌else◌, Bool, true, false, List, [], ◌∷◌, ◌++◌, length, filter, count_by, fold, slice_index}
+use Rattle.std.specs.List.{list_any}
+use Rattle.rv_execute.specs.Payloads.{changed}
+use Rattle.ticket_table.specs.declared.entry.Role.{Role}
+use Rattle.ticket_table.specs.declared.entry.Role.TheVariants.{Draw, Serve}
+use Rattle.ticket_table.specs.declared.entry.Terms.{Terms}
+use Rattle.ticket_table.specs.declared.entry.Entry.{Entry}
+use Rattle.ticket_table.specs.Words.{number_of, payload_of}
+
+-- the terms of a table, and the first payload of each word
+pub record Basis : Type 0 where
+  pub terms : Terms
+  pub first : List ℕ
+
+-- `count` numbers from `first` on
+abbrev pub count_up : ℕ → ℕ → List ℕ
+count_up first zero = []
+count_up first (suc count) = first ∷ count_up (suc first) count
+
+-- the entries of one word, and those of one caller, in their order
+abbrev pub of_word : ℕ → List Entry → List Entry
+of_word word entries = filter (λ e. e.word == word) entries
+
+abbrev pub of_caller : ℕ → List Entry → List Entry
+of_caller caller entries = filter (λ e. e.caller == caller) entries
+
+-- how many changes a word has had
+abbrev pub count_at : ℕ → List Entry → ℕ
+count_at word entries = count_by (λ e. e.word == word) entries
+
+-- what the word's last change left, or its first payload
+abbrev pub left_at : ℕ → ℕ → List Entry → ℕ
+left_at first word entries = fold (λ payload e. if e.word == word then e.new else payload) first entries
+
+-- what a change leaves: by its operation, but a drawn number at or above the limit leaves the payload as it was
+abbrev pub new_of : Role → ℕ → Entry → ℕ
+new_of Draw limit e = if nat_lt e.number limit then changed e.op e.number e.old else e.old
+new_of Serve limit e = changed e.op e.number e.old
+
+-- whether a number was drawn at or above the limit
+abbrev pub has_spent : Role → ℕ → List Entry → Bool
+has_spent Draw limit entries = list_any (λ e. nat_le limit e.number) entries
+has_spent Serve limit entries = false
+
+-- an entry that may come next
+pub record MayFollow (basis : Basis) (before : List Entry) (e : Entry) : Type 0 where
+  pub word : e.word < length basis.first
+  pub caller : e.caller < basis.terms.callers
+  pub number : e.number ≡ count_at e.word before
+  pub old : e.old ≡ left_at (slice_index basis.first e.word) e.word before
+  pub new : e.new ≡ new_of basis.terms.role basis.terms.limit e
+  pub below : e.number < basis.terms.limit + basis.terms.callers
+  pub unspent : has_spent basis.terms.role basis.terms.limit (of_caller e.caller before) ≡ false
+
+-- each entry may come after those before it
+abbrev pub IsHistory : Basis → List Entry → Type 0
+IsHistory basis history =
+    (before after : List Entry) (e : Entry) → history ≡ before ++ e ∷ after → MayFollow basis before e
+
+-- the words after a history: each has its count of changes, and its last payload
+pub record Leaves (basis : Basis) (history : List Entry) (words : List ℕ) : Type 0 where
+  pub count : length words ≡ length basis.first
+  pub numbers : (word : ℕ) → word < length words → number_of (slice_index words word) ≡ count_at word history
+  pub payloads : (word : ℕ) → word < length words →
+      payload_of (slice_index words word) ≡ left_at (slice_index basis.first word) word history
