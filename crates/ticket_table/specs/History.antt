@@ -1,6 +1,6 @@
 -- A ticket history: all changes of a table's words in one order, in which each word's changes are numbered 0, 1, 2 and so on,
 -- each finds what the one before left, and no caller goes on after a spent number (tickets as in Reed and Kanodia, 1979).
-use Rattle.std.specs.Prelude.{◌≡◌, ℕ, zero, suc, ◌+◌, ◌<◌, ◌==◌, nat_lt, nat_le, if◌then◌else◌, Bool, true, false, List, [], ◌∷◌, ◌++◌, length, filter, count_by, fold, slice_index}
+use Rattle.std.specs.Prelude.{◌≡◌, ℕ, zero, suc, ◌+◌, ◌<◌, ◌==◌, nat_lt, nat_le, if◌then◌else◌, Bool, false, List, [], ◌∷◌, ◌++◌, length, map, filter, count_by, fold, slice_index}
 use Rattle.std.specs.List.{list_any}
 use Rattle.rv_execute.specs.Payloads.{changed}
 use Rattle.ticket_table.specs.declared.entry.Role.{Role}
@@ -65,3 +65,9 @@ pub record Leaves (basis : Basis) (history : List Entry) (words : List ℕ) : Ty
   pub numbers : (word : ℕ) → word < length words → number_of (slice_index words word) ≡ count_at word history
   pub payloads : (word : ℕ) → word < length words →
       payload_of (slice_index words word) ≡ left_at (slice_index basis.first word) word history
+
+-- in a history each word's numbers are 0, 1, 2 and so on, as many as it has changes
+abbrev pub NumbersInOrder : Type 0
+NumbersInOrder =
+    (basis : Basis) (history : List Entry) → IsHistory basis history
+    → (word : ℕ) → map (λ e. e.number) (of_word word history) ≡ count_up 0 (count_at word history)

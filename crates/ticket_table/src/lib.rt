@@ -2,6 +2,7 @@
 #![tactic(auto)]
 
 mod entry;
+pub mod laws;
 mod word;
 
 pub use entry::{Entry, Note, Role, Setting, Terms, View};
