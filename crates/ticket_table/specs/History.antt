@@ -2,6 +2,7 @@
 -- each finds what the one before left, and no caller goes on after a spent number (tickets as in Reed and Kanodia, 1979).
 use Rattle.std.specs.Prelude.{◌≡◌, ℕ, zero, suc, ◌+◌, ◌<◌, ◌==◌, nat_lt, nat_le, if◌then◌else◌, Bool, false, List, [], ◌∷◌, ◌++◌, length, map, filter, count_by, fold, slice_index}
 use Rattle.std.specs.List.{list_any}
+use Rattle.rv_execute.specs.declared.op.Op.{Op}
 use Rattle.rv_execute.specs.Payloads.{changed}
 use Rattle.ticket_table.specs.declared.entry.Role.{Role}
 use Rattle.ticket_table.specs.declared.entry.Role.TheVariants.{Draw, Serve}
@@ -34,10 +35,10 @@ count_at word entries = count_by (λ e. e.word == word) entries
 abbrev pub left_at : ℕ → ℕ → List Entry → ℕ
 left_at first word entries = fold (λ payload e. if e.word == word then e.new else payload) first entries
 
--- what a change leaves: by its operation, but a drawn number at or above the limit leaves the payload as it was
-abbrev pub new_of : Role → ℕ → Entry → ℕ
-new_of Draw limit e = if nat_lt e.number limit then changed e.op e.number e.old else e.old
-new_of Serve limit e = changed e.op e.number e.old
+-- what a change leaves, of its operation, its number and the payload found: a drawn number at or above the limit leaves the payload as it was
+abbrev pub left_by : Role → ℕ → Op → ℕ → ℕ → ℕ
+left_by Draw limit op number old = if nat_lt number limit then changed op number old else old
+left_by Serve limit op number old = changed op number old
 
 -- whether a number was drawn at or above the limit
 abbrev pub has_spent : Role → ℕ → List Entry → Bool
@@ -50,7 +51,7 @@ pub record MayFollow (basis : Basis) (before : List Entry) (e : Entry) : Type 0 
   pub caller : e.caller < basis.terms.callers
   pub number : e.number ≡ count_at e.word before
   pub old : e.old ≡ left_at (slice_index basis.first e.word) e.word before
-  pub new : e.new ≡ new_of basis.terms.role basis.terms.limit e
+  pub new : e.new ≡ left_by basis.terms.role basis.terms.limit e.op e.number e.old
   pub below : e.number < basis.terms.limit + basis.terms.callers
   pub unspent : has_spent basis.terms.role basis.terms.limit (of_caller e.caller before) ≡ false
 
