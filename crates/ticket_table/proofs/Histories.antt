@@ -38,8 +38,8 @@ module _ (basis : Basis) where
   earlier h rest all before after e same =
       all before (after ++ rest) e (ap (λ (xs : List Entry). xs ++ rest) same ∙ append_assoc before (e ∷ after) rest)
 
-  pub one_more : (h : List Entry) (e : Entry) → IsHistory basis h → MayFollow basis h e → IsHistory basis (h ++ e ∷ [])
-  one_more h e all next before after f same =
+  pub history_more : (h : List Entry) (e : Entry) → IsHistory basis h → MayFollow basis h e → IsHistory basis (h ++ e ∷ [])
+  history_more h e all next before after f same =
       elim (ends h before after e f same) [
         | inl t ↦
             let Before : List Entry → Type 0 = λ xs. MayFollow basis xs e in

@@ -112,9 +112,9 @@ module _ (basis : Basis) where
           ]
 
   -- a caller that is not spent finds each word's count below the limit and the number of callers
-  pub count_below : basis.terms.role ≡ Draw → (h : List Entry) → IsHistory basis h → (caller : ℕ) → caller < basis.terms.callers
-      → has_spent basis.terms.role basis.terms.limit (of_caller caller h) ≡ false → (word : ℕ) → count_at word h < basis.terms.limit + basis.terms.callers
-  count_below draw h all caller within unspent word =
+  pub below_unspent : (h : List Entry) (caller word : ℕ) → IsHistory basis h → basis.terms.role ≡ Draw → caller < basis.terms.callers
+      → has_spent basis.terms.role basis.terms.limit (of_caller caller h) ≡ false → count_at word h < basis.terms.limit + basis.terms.callers
+  below_unspent h caller word all draw within unspent =
       let s = spent_callers draw word h all in
       let fresh : list_any (eqb caller) s.callers ≡ false = not_there s (list_any (eqb caller) s.callers) refl in
       let few = length-le_from_distinct_below (s.callers ++ caller ∷ []) basis.terms.callers
