@@ -1,16 +1,16 @@
 -- The seat of one caller, which has looked at a word, may exchange it for what the caller's entry leaves.
-use Rattle.std.proofs.Common.{◌≡◌, ℕ, ◌+◌, ◌<◌, Bool, true, false, ◌||◌, List, [], ◌∷◌, length, eqb, refl, sym, ap, subst, ◌∙◌, eq-eqb}
+use Rattle.std.proofs.Common.{◌≡◌, ℕ, ◌+◌, ◌<◌, Bool, true, false, ◌||◌, List, length, eqb, refl, sym, ap, subst, ◌∙◌, eq-eqb}
 use mathlib.Core.Option.{some}
 use prog.Atomic.{either}
 use Rattle.atomic_table.specs.Table.{Me, step, Allows}
 use Rattle.rv_execute.specs.declared.op.Op.{Op}
 use Rattle.ticket_table.specs.declared.entry.Role.{Role}
-use Rattle.ticket_table.specs.declared.entry.Role.TheVariants.{Draw, Serve}
+use Rattle.ticket_table.specs.declared.entry.Role.TheVariants.{Serve}
 use Rattle.ticket_table.specs.declared.entry.Entry.{Entry}
 use Rattle.ticket_table.specs.declared.entry.View.{View}
 use Rattle.ticket_table.specs.declared.entry.Note.{Note}
 use Rattle.ticket_table.specs.Words.{number_of, payload_of, word_of}
-use Rattle.ticket_table.specs.History.{Basis, of_caller, has_spent, left_by}
+use Rattle.ticket_table.specs.History.{Basis, has_spent, left_by}
 use Rattle.ticket_table.specs.Views.{has, IsAlone, looked, looked_at}
 use Rattle.ticket_table.specs.Rule.{Kept, Exchanged}
 use Rattle.ticket_table.proofs.Changing.{Asks, exchanges}
@@ -51,7 +51,7 @@ pub exchanges_after_look : (basis : Basis) (slots id word : ℕ) (me old_me : Me
 exchanges_after_look basis slots id word me old_me seen new second note within look alone unspent below is small written =
     let P : Me Note View → Type 0 = λ m. Allows (Kept basis) slots id m word (λ n. either (eqb n seen) second n) (Exchanged (step slots word seen second (some note)) m) in
     subst P (sym look) (exchanges basis slots id word (looked_at me.0.steps old_me.0 word seen, old_me.1) seen second note within
-        (asks_after_look old_me.0 me.0.steps word seen new second note alone unspent below is small written))
+    (asks_after_look old_me.0 me.0.steps word seen new second note alone unspent below is small written))
 
 -- a look, by the steps after it
 pub look_as_is : (me old_me : Me Note View) (word seen : ℕ) → me ≡ (looked old_me.0 word seen, old_me.1) → me ≡ (looked_at me.0.steps old_me.0 word seen, old_me.1)
