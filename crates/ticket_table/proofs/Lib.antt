@@ -1,3 +1,4 @@
 pub mod Histories
 pub mod SpentCallers
 pub mod Leaving
+pub mod Keeps

@@ -1,2 +1,6 @@
 pub mod Words
 pub mod History
+pub mod Views
+pub mod Rule
+pub mod Passes
+pub mod Gathered

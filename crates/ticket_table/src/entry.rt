@@ -54,6 +54,7 @@ pub struct View {
 }
 
 /// What a caller announces with a step: itself, and the operation.
+#[derive(Clone, Copy)]
 pub struct Note {
     pub caller: u8,
     pub op: Op,

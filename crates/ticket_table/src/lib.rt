@@ -1,9 +1,22 @@
 //! Words that many threads change one at a time, each change with its number: a ticket that is drawn or served.
 #![tactic(auto)]
 
+mod closed;
+mod dealing;
 mod entry;
+mod gathering;
 pub mod laws;
+mod pass;
+mod rule;
+mod served;
+mod steps;
+mod tickets;
 mod word;
 
+pub use closed::Closed;
 pub use entry::{Entry, Note, Role, Setting, Terms, View};
+pub use pass::Pass;
+pub use rule::Tickets;
+pub use served::Served;
+pub use tickets::TicketTable;
 pub use word::{number, payload};

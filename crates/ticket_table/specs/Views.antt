@@ -1,0 +1,71 @@
+-- What a seat of the table knows: its view, and how a step, a split and a join change it (this project's own form).
+use Rattle.std.specs.Prelude.{◌≡◌, ℕ, ◌+◌, ◌==◌, Bool, true, false, List, [], ◌∷◌, ◌++◌, Some, None}
+use Rattle.std.specs.List.{list_any}
+use Rattle.rv_execute.specs.declared.op.Op.{Op}
+use Rattle.ticket_table.specs.declared.entry.Role.TheVariants.{Draw}
+use Rattle.ticket_table.specs.declared.entry.Terms.{Terms}
+use Rattle.ticket_table.specs.declared.entry.Entry.{Entry}
+use Rattle.ticket_table.specs.declared.entry.View.{View}
+use Rattle.ticket_table.specs.Words.{word_of}
+use Rattle.ticket_table.specs.History.{Basis, count_up, of_caller, left_by}
+
+-- whether a caller is among these
+abbrev pub has : List ℕ → ℕ → Bool
+has callers caller = list_any (λ c. c == caller) callers
+
+-- it stands for one caller, and all its entries are that caller's
+pub record IsAlone (v : View) (caller : ℕ) : Type 0 where
+  pub live : v.live ≡ true
+  pub callers : v.callers ≡ caller ∷ []
+  pub own : of_caller caller v.mine ≡ v.mine
+
+-- `count` callers from `first` on, with no entry yet
+abbrev pub stock : Terms → ℕ → ℕ → View
+stock terms first count = record { live = true; terms = terms; callers = count_up first count; mine = []; last = None; steps = 0 }
+
+-- the first view of a table, which stands for all callers
+abbrev pub opened : Basis → View
+opened basis = stock basis.terms 0 basis.terms.callers
+
+-- nobody, which is what a view leaves that was joined into another
+abbrev pub nobody : View
+nobody = record { live = false; terms = record { role = Draw; limit = 0; callers = 0 }; callers = []; mine = []; last = None; steps = 0 }
+
+-- after a look at a word
+abbrev pub looked_at : ℕ → View → ℕ → ℕ → View
+looked_at steps v word found = record { live = v.live; terms = v.terms; callers = v.callers; mine = v.mine; last = Some (word, found); steps = steps }
+
+abbrev pub looked : View → ℕ → ℕ → View
+looked v word found = looked_at (v.steps + 1) v word found
+
+-- after a change of a word
+abbrev pub grown_at : ℕ → View → Entry → View
+grown_at steps v e = record { live = v.live; terms = v.terms; callers = v.callers; mine = v.mine ++ e ∷ []; last = Some (e.word, word_of (e.number + 1) e.new); steps = steps }
+
+abbrev pub grown : View → Entry → View
+grown v e = grown_at (v.steps + 1) v e
+
+-- all callers but the first
+abbrev pub rest_of : List ℕ → List ℕ
+rest_of [] = []
+rest_of (c ∷ cs) = cs
+
+-- the first caller alone
+abbrev pub head_of : List ℕ → List ℕ
+head_of [] = []
+head_of (c ∷ cs) = c ∷ []
+
+-- a view without its first caller, and the view of that caller, which has no entry yet
+abbrev pub without_first : View → View
+without_first v = record { live = v.live; terms = v.terms; callers = rest_of v.callers; mine = v.mine; last = v.last; steps = v.steps }
+
+abbrev pub first_alone : View → View
+first_alone v = record { live = v.live; terms = v.terms; callers = head_of v.callers; mine = []; last = None; steps = 0 }
+
+-- two views in one
+abbrev pub together : View → View → View
+together v w = record { live = v.live; terms = v.terms; callers = v.callers ++ w.callers; mine = v.mine ++ w.mine; last = v.last; steps = v.steps }
+
+-- the entry of a change under these terms
+abbrev pub made : Terms → ℕ → ℕ → ℕ → Op → ℕ → Entry
+made terms caller word number op old = record { caller = caller; word = word; number = number; op = op; old = old; new = left_by terms.role terms.limit op number old }
