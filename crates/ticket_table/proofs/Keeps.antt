@@ -15,7 +15,7 @@ use Rattle.ticket_table.specs.Words.{number_of, payload_of}
 use Rattle.ticket_table.specs.History.{Basis, IsHistory, Leaves, count_at, of_caller, has_spent}
 use Rattle.ticket_table.specs.Views.{has, looked}
 use Rattle.ticket_table.specs.Rule.{Fits, AreApart, KeptBy, Kept, Below, Looked}
-use Rattle.ticket_table.proofs.SpentCallers.{count_below}
+use Rattle.ticket_table.proofs.SpentCallers.{below_unspent}
 
 -- a test that would be true has the other answer
 pub not_true : (b : Bool) → (b ≡ true → b ≡ false) → b ≡ false
@@ -79,17 +79,21 @@ below_here basis words views entries id i v kept at within c live draw mine unsp
     let quiet : has_spent v.terms.role v.terms.limit (of_caller c entries) ≡ false = ap (λ l. has_spent v.terms.role v.terms.limit l) (fits.own c mine) ∙ unspent in
     let still : has_spent basis.terms.role basis.terms.limit (of_caller c entries) ≡ false =
         subst (λ (t : Terms). has_spent t.role t.limit (of_caller c entries) ≡ false) (sym same) quiet in
-    let count = count_below basis role entries kept.history c bound still i in
+    let count = below_unspent basis entries c i kept.history role bound still in
     let number : number_of (get_or words i 0) ≡ count_at i entries = kept.leaves.numbers i (let long = kept.leaves.count in omega arith) in
     subst (λ (t : Terms). number_of (get_or words i 0) < t.limit + t.callers) same (omega arith)
 
+-- the rule after a look
+pub looked_kept : (basis : Basis) (words : List ℕ) (views : List View) (entries : List Entry) (id i : ℕ) (v : View) → KeptBy basis words views entries → get_elem? views id ≡ some v
+    → KeptBy basis (set words i (get_or words i 0)) (set views id (looked v i (get_or words i 0))) entries
+looked_kept basis words views entries id i v kept at =
+    let w : View = looked v i (get_or words i 0) in
+    let stays : KeptBy basis words (set views id w) entries =
+        kept_set basis words views entries id w kept.history kept.leaves (λ j u _ e. kept.fits j u e) (fits_looked basis entries words v i (kept.fits id v at))
+            (apart_set views id v w at (λ c yes. yes) kept.apart) in
+    let P : List ℕ → Type 0 = λ ws. KeptBy basis ws (set views id w) entries in
+    subst P (sym (set-get_or words i 0)) stays
+
 pub looks : (basis : Basis) (slots id i : ℕ) (me : Me Note View) → i < length basis.first → Allows (Kept basis) slots id me i (λ n. n) (Looked (step slots i 0 0 none) me)
 looks basis slots id i me within s kept homes at small =
-    let x : ℕ = get_or s.words i 0 in
-    let k = kept.1 in
-    let w : View = looked me.0 i x in
-    let stays : KeptBy basis s.words (set s.views id w) kept.0 =
-        kept_set basis s.words s.views kept.0 id w k.history k.leaves (λ j u _ e. k.fits j u e) (fits_looked basis kept.0 s.words me.0 i (k.fits id me.0 at))
-            (apart_set s.views id me.0 w at (λ c yes. yes) k.apart) in
-    let P : List ℕ → Type 0 = λ ws. KeptBy basis ws (set s.views id w) kept.0 in
-    (w, keeps, tt, (kept.0, subst P (sym (set-get_or s.words i 0)) stays), (refl, below_here basis s.words s.views kept.0 id i me.0 k at within))
+    (looked me.0 i (get_or s.words i 0), keeps, tt, (kept.0, looked_kept basis s.words s.views kept.0 id i me.0 kept.1 at), (refl, below_here basis s.words s.views kept.0 id i me.0 kept.1 at within))

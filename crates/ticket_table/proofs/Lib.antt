@@ -1,4 +1,6 @@
 pub mod Histories
 pub mod SpentCallers
 pub mod Leaving
+pub mod Following
 pub mod Keeps
+pub mod Changing
