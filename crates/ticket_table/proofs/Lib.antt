@@ -4,3 +4,5 @@ pub mod Leaving
 pub mod Following
 pub mod Keeps
 pub mod Changing
+pub mod Places
+pub mod Asking
