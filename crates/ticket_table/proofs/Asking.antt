@@ -51,7 +51,7 @@ pub exchanges_after_look : (basis : Basis) (slots id word : ℕ) (me old_me : Me
 exchanges_after_look basis slots id word me old_me seen new second note within look alone unspent below is small written =
     let P : Me Note View → Type 0 = λ m. Allows (Kept basis) slots id m word (λ n. either (eqb n seen) second n) (Exchanged (step slots word seen second (some note)) m) in
     subst P (sym look) (exchanges basis slots id word (looked_at me.0.steps old_me.0 word seen, old_me.1) seen second note within
-        (asks_after_look old_me.0 me.0.steps word seen new second note alone unspent below is small written))
+    (asks_after_look old_me.0 me.0.steps word seen new second note alone unspent below is small written))
 
 -- a look, by the steps after it
 pub look_as_is : (me old_me : Me Note View) (word seen : ℕ) → me ≡ (looked old_me.0 word seen, old_me.1) → me ≡ (looked_at me.0.steps old_me.0 word seen, old_me.1)

@@ -103,7 +103,7 @@ module _ (basis : Basis) (words : List ℕ) (views : List View) (h : List Entry)
             → (number_of x ≤ number_of (get_or words word 0)) × (number_of x ≡ number_of (get_or words word 0) → x ≡ get_or words word 0)
             → (word ≡ e.word) ⊎ (word ≢ e.word)
             → (number_of x ≤ number_of (get_or (set words e.word (word_of (e.number + 1) e.new)) word 0))
-              × (number_of x ≡ number_of (get_or (set words e.word (word_of (e.number + 1) e.new)) word 0) → x ≡ get_or (set words e.word (word_of (e.number + 1) e.new)) word 0)
+            × (number_of x ≡ number_of (get_or (set words e.word (word_of (e.number + 1) e.new)) word 0) → x ≡ get_or (set words e.word (word_of (e.number + 1) e.new)) word 0)
         by_word word x was (inl same) =
             let now : get_or (set words e.word (word_of (e.number + 1) e.new)) word 0 ≡ word_of (e.number + 1) e.new = ap (λ (k : ℕ). get_or (set words e.word (word_of (e.number + 1) e.new)) k 0) same ∙ written in
             let number : number_of (get_or (set words e.word (word_of (e.number + 1) e.new)) word 0) ≡ e.number + 1 = ap number_of now ∙ number_of-word_of (e.number + 1) e.new small in
@@ -118,7 +118,7 @@ module _ (basis : Basis) (words : List ℕ) (views : List View) (h : List Entry)
     unfolding after
     grown_kept =
         kept_set basis (set words e.word (word_of (e.number + 1) e.new)) views (h ++ e ∷ []) id (grown v e) (history_more basis h e kept.history may)
-            (leaves_more basis h words e kept.leaves may small) other_fits grown_fits (apart_set views id v (grown v e) at (λ c yes. yes) kept.apart)
+        (leaves_more basis h words e kept.leaves may small) other_fits grown_fits (apart_set views id v (grown v e) at (λ c yes. yes) kept.apart)
 
     grown_follows : Follows (of_caller e.caller v.mine) e
     grown_follows =
@@ -152,7 +152,7 @@ module _ (basis : Basis) (s : State Note View) (h : List Entry) (kept : KeptBy b
       let P : ℕ → Type 0 = λ y. KeptBy basis (set s.words word y) (set s.views id (grown me.0 next_entry)) (h ++ next_entry ∷ []) in
       let Q : Bool → Type 0 = λ b. P (either b second (get_or s.words word 0)) in
       subst Q (sym (eq-eqb (get_or s.words word 0) first hit)) (subst P (sym asks.written)
-          (grown_kept basis s.words s.views h id me.0 kept at next_entry (next_may hit) asks.caller asks.small))
+      (grown_kept basis s.words s.views h id me.0 kept at next_entry (next_may hit) asks.caller asks.small))
 
   won_follows : get_or s.words word 0 ≡ first → Follows (of_caller next_entry.caller me.0.mine) next_entry
   unfolding next_entry
@@ -174,21 +174,24 @@ unfolding next_entry
 exchanges basis slots id word me first second note within asks s kept homes at small =
     let e = next_entry basis s kept.0 kept.1 id word me at first second note within asks in
     dite (ℕ_discrete (get_or s.words word 0) first)
-        (λ hit. (
-          grown me.0 (made me.0.terms note.caller word (number_of first) note.op (payload_of first)),
-          keeps,
-          tt,
-          (kept.0 ++ made me.0.terms note.caller word (number_of first) note.op (payload_of first) ∷ [], won_kept basis s kept.0 kept.1 id word me at first second note within asks hit),
-          ((λ _. (refl, won_follows basis s kept.0 kept.1 id word me at first second note within asks hit)), λ miss. absurd (miss hit)),
-        ))
-        (λ miss. (
-          looked me.0 word (get_or s.words word 0),
-          keeps,
-          tt,
-          (kept.0, lost_kept basis s kept.0 kept.1 id word me at first second note within asks miss),
-          ((λ hit. absurd (miss hit)), λ _. (
-            refl,
-            lost_later basis s kept.0 kept.1 id word me at first second note within asks miss,
-            below_here basis s.words s.views kept.0 id word me.0 kept.1 at within,
-          )),
-        ))
+    (λ hit. (
+      grown me.0 (made me.0.terms note.caller word (number_of first) note.op (payload_of first)),
+      keeps,
+      tt,
+      (kept.0 ++ made me.0.terms note.caller word (number_of first) note.op (payload_of first) ∷ [], won_kept basis s kept.0 kept.1 id word me at first second note within asks hit),
+      ((λ _. (refl, won_follows basis s kept.0 kept.1 id word me at first second note within asks hit)), λ miss. absurd (miss hit)),
+    ))
+    (λ miss. (
+      looked me.0 word (get_or s.words word 0),
+      keeps,
+      tt,
+      (kept.0, lost_kept basis s kept.0 kept.1 id word me at first second note within asks miss),
+      (
+        (λ hit. absurd (miss hit)),
+        λ _. (
+          refl,
+          lost_later basis s kept.0 kept.1 id word me at first second note within asks miss,
+          below_here basis s.words s.views kept.0 id word me.0 kept.1 at within,
+        ),
+      ),
+    ))

@@ -46,6 +46,7 @@ module _ (basis : Basis) (caller word : ℕ) where
       by_place : (slice_get (of_caller caller h) place ≡ Some a) ⊎ (e ≡ a) → Precedes basis word (h ++ e ∷ []) a
       by_place (inl old) = older h e a (before place a old here)
       by_place (inr new) = newest h e a may new here
+
       by_caller : (e.caller ≡ caller) ⊎ (e.caller ≢ caller) → Precedes basis word (h ++ e ∷ []) a
       by_caller (inl same) = by_place (get_push (of_caller caller h) e a place (ap (λ (xs : List Entry). slice_get xs place) (sym (of_caller-same caller h e same)) ∙ found))
       by_caller (inr other) = older h e a (before place a (ap (λ (xs : List Entry). slice_get xs place) (sym (of_caller-other caller h e other)) ∙ found) here)

@@ -29,12 +29,15 @@ apart_set views id v w at fewer apart i j a b c ia jb ne ha = first (at_set view
   where
     fewer_still : has v.callers c ≡ false → has w.callers c ≡ false
     fewer_still without = not_true (has w.callers c) (λ yes. absurd (let both = fewer c yes in cc))
+
     second : (has v.callers c ≡ true) → i ≡ id → ((j ≡ id) × (w ≡ b)) ⊎ ((j ≢ id) × (get_elem? views j ≡ some b)) → has b.callers c ≡ false
     second hv ii (inl same) = absurd (ne (ii ∙ sym same.0))
     second hv ii (inr other) = apart id j v b c at other.1 (λ e. other.0 (sym e)) hv
+
     third : i ≢ id → get_elem? views i ≡ some a → ((j ≡ id) × (w ≡ b)) ⊎ ((j ≢ id) × (get_elem? views j ≡ some b)) → has b.callers c ≡ false
     third ni ia (inl same) = subst (λ (u : View). has u.callers c ≡ false) same.1 (fewer_still (apart i id a v c ia at ni ha))
     third ni ia (inr other) = apart i j a b c ia other.1 ne ha
+
     first : ((i ≡ id) × (w ≡ a)) ⊎ ((i ≢ id) × (get_elem? views i ≡ some a)) → has b.callers c ≡ false
     first (inl same) = second (fewer c (subst (λ (u : View). has u.callers c ≡ true) (sym same.1) ha)) same.0 (at_set views id j w b jb)
     first (inr other) = third other.0 other.1 (at_set views id j w b jb)
@@ -49,6 +52,7 @@ kept_set basis words views entries id w history leaves others this apart =
     by_place : (j : ℕ) (u : View) → ((j ≡ id) × (w ≡ u)) ⊎ ((j ≢ id) × (get_elem? views j ≡ some u)) → Fits basis entries words u
     by_place j u (inl same) = subst (λ (u : View). Fits basis entries words u) same.1 this
     by_place j u (inr other) = others j u other.0 other.1
+
     fits : (j : ℕ) (u : View) → get_elem? (set views id w) j ≡ some u → Fits basis entries words u
     fits j u e = by_place j u (at_set views id j w u e)
 
@@ -78,7 +82,7 @@ below_here basis words views entries id i v kept at within c live draw mine unsp
     let role : basis.terms.role ≡ Draw = ap (λ t. t.role) same ∙ draw in
     let quiet : has_spent v.terms.role v.terms.limit (of_caller c entries) ≡ false = ap (λ l. has_spent v.terms.role v.terms.limit l) (fits.own c mine) ∙ unspent in
     let still : has_spent basis.terms.role basis.terms.limit (of_caller c entries) ≡ false =
-        subst (λ (t : Terms). has_spent t.role t.limit (of_caller c entries) ≡ false) (sym same) quiet in
+    subst (λ (t : Terms). has_spent t.role t.limit (of_caller c entries) ≡ false) (sym same) quiet in
     let count = below_unspent basis entries c i kept.history role bound still in
     let number : number_of (get_or words i 0) ≡ count_at i entries = kept.leaves.numbers i (let long = kept.leaves.count in omega arith) in
     subst (λ (t : Terms). number_of (get_or words i 0) < t.limit + t.callers) same (omega arith)
@@ -89,8 +93,8 @@ pub looked_kept : (basis : Basis) (words : List ℕ) (views : List View) (entrie
 looked_kept basis words views entries id i v kept at =
     let w : View = looked v i (get_or words i 0) in
     let stays : KeptBy basis words (set views id w) entries =
-        kept_set basis words views entries id w kept.history kept.leaves (λ j u _ e. kept.fits j u e) (fits_looked basis entries words v i (kept.fits id v at))
-            (apart_set views id v w at (λ c yes. yes) kept.apart) in
+    kept_set basis words views entries id w kept.history kept.leaves (λ j u _ e. kept.fits j u e) (fits_looked basis entries words v i (kept.fits id v at))
+    (apart_set views id v w at (λ c yes. yes) kept.apart) in
     let P : List ℕ → Type 0 = λ ws. KeptBy basis ws (set views id w) entries in
     subst P (sym (set-get_or words i 0)) stays
 

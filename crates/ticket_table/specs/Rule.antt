@@ -45,7 +45,7 @@ Kept basis s = (history : List Entry) × KeptBy basis s.words s.views history
 abbrev pub Below : View → ℕ → Type 0
 Below v found =
     (caller : ℕ) → v.live ≡ true → v.terms.role ≡ Draw → has v.callers caller ≡ true → has_spent v.terms.role v.terms.limit (of_caller caller v.mine) ≡ false →
-      number_of found < v.terms.limit + v.terms.callers
+    number_of found < v.terms.limit + v.terms.callers
 
 -- an entry that may follow these of its caller: its number is above each at its word, and the next number found what that entry left
 abbrev pub Follows : List Entry → Entry → Type 0

@@ -67,13 +67,7 @@ pub(crate) fn draw(
 }
 
 /// Changes the word if its number is the one asked for.
-pub(crate) fn offer(
-    shared: &Words,
-    seat: &mut Place,
-    word: u32,
-    asked: u32,
-    note: &Note,
-) -> Served
+pub(crate) fn offer(shared: &Words, seat: &mut Place, word: u32, asked: u32, note: &Note) -> Served
     requires place { (seat.old.table_id ≡ shared.now.table_id) × (word < shared.now.table_id.words) × (word < length shared.now.key.first.items) }
     requires alone { IsAlone seat.old.me.0 note.now.caller }
     requires terms { (seat.old.me.0.terms.role ≡ Serve) × (asked < seat.old.me.0.terms.limit + seat.old.me.0.terms.callers) × (seat.old.me.0.terms.limit + seat.old.me.0.terms.callers ≤ 4294967294) }
@@ -97,6 +91,8 @@ pub(crate) fn offer(
     if found == seen {
         Served::Done { old }
     } else {
-        Served::NotYet { seen: number(found) }
+        Served::NotYet {
+            seen: number(found),
+        }
     }
 }

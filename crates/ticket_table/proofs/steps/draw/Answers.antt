@@ -23,7 +23,7 @@ compare_exchange_with-found-requires c =
     let small : new < 4294967296 = omega arith in
     let written : c.joined.result ≡ word_of (number_of seen + 1) new = c.joined.ensures ∙ ap (λ (n : ℕ). word_of (n + 1) new) next in
     let below : number_of seen < v.terms.limit + v.terms.callers =
-        (let P : ℕ → Type 0 = λ limit. number_of seen < limit + v.terms.callers in subst P (sym terms.1) c.tries.invariant.below) in (
+    (let P : ℕ → Type 0 = λ limit. number_of seen < limit + v.terms.callers in subst P (sym terms.1) c.tries.invariant.below) in (
       c.tries.invariant.table ∙ c.requires.place.0,
       c.requires.place.1,
       exchanges_after_look (basis_of shared.key) shared.table_id.slots c.tries.seat.id c.args.word c.tries.seat.me c.args.seat.now.me seen new c.joined.result note c.requires.place.2

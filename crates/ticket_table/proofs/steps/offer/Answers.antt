@@ -23,7 +23,7 @@ compare_exchange_with-found-requires c =
     let small : new < 4294967296 = omega arith in
     let written : c.joined.result ≡ word_of (number_of seen + 1) new = c.joined.ensures ∙ ap (λ (n : ℕ). word_of (n + 1) new) asked in
     let below : number_of seen < v.terms.limit + v.terms.callers =
-        (let P : ℕ → Type 0 = λ n. n < v.terms.limit + v.terms.callers in subst P asked terms.1) in
+    (let P : ℕ → Type 0 = λ n. n < v.terms.limit + v.terms.callers in subst P asked terms.1) in
     let found = c.load-seen.ensures in (
       found.0 ∙ c.requires.place.0,
       c.requires.place.1,
