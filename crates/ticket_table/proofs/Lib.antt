@@ -6,3 +6,4 @@ pub mod Keeps
 pub mod Changing
 pub mod Places
 pub mod Asking
+pub mod Sharing
