@@ -10,6 +10,8 @@ mod pass;
 mod rule;
 mod served;
 mod steps;
+#[cfg(test)]
+mod tests;
 mod tickets;
 mod word;
 

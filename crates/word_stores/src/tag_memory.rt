@@ -1,0 +1,80 @@
+//! The tags of a run's words, shared by the tag actors.
+
+ghost use Rattle.std.specs.Prelude.{◌≡◌, ◌≢◌, ◌+◌, ◌<◌, ◌≤◌, List, length, replicate, IfOk};
+ghost use Rattle.ticket_table.specs.declared.entry.Role.TheVariants.{Serve};
+ghost use Rattle.ticket_table.specs.declared.entry.Entry.{Entry};
+ghost use Rattle.ticket_table.specs.Passes.{IsPassOf, entry_made, with_entry, LookedAt, IfDone, IfNotYet, AreFresh, ArePasses, Closes};
+ghost use Rattle.ticket_table.specs.Rule.{Follows};
+
+use crate::payloads::zeros;
+use bounded_list::NoMemory;
+use rv_execute::Op;
+use std::alloc::Global;
+use std::marker::Model;
+use ticket_table::{Closed, Pass, Role, Served, TicketTable};
+
+/// The tags of a run's words: each change comes with its number, and is made when the word has reached it.
+#[derive(Drop)]
+pub struct TagMemory {
+    words: TicketTable,
+}
+
+impl Model for TagMemory {
+    ghost use Rattle.std.specs.Prelude.{◌≡◌};
+    ghost use Rattle.ticket_table.specs.declared.entry.Role.TheVariants.{Serve};
+    ghost use Rattle.ticket_table.specs.Passes.{TableSeen};
+
+    ghost Value = { TableSeen };
+
+    ghost view = { λ memory. memory.words };
+
+    ghost invariant = { λ memory. memory.words.basis.terms.role ≡ Serve };
+}
+
+impl TagMemory {
+    /// As many words as are wanted, each without a tag, and a pass for each of the callers 0, 1, 2 and so on. Numbers up to
+    /// `limit + callers` are served.
+    pub fn create(
+        alloc: Global,
+        words: u32,
+        callers: u8,
+        limit: u32,
+    ) -> Result<(TagMemory, Vec<Pass>), NoMemory>
+        requires size { (0 < words) × (0 < callers) }
+        requires room { limit + callers ≤ 4294967294 }
+        ensures basis { IfOk result (λ made. made.0.basis ≡ record { terms = record { role = Serve; limit = limit; callers = callers }; first = replicate words 0 }) }
+        ensures passes { IfOk result (λ made. AreFresh made.0 made.1.items) }
+    {
+        let payloads = zeros(alloc, words)?;
+        let (words, passes) = TicketTable::create(
+            alloc,
+            payloads.as_slice(),
+            callers,
+            limit,
+            Role::Serve,
+        )?;
+        Ok((TagMemory { words }, passes))
+    }
+
+    /// Changes a word by the operation if its number is this one, in one step: `Done` with the tag that the operation found.
+    /// `NotYet` where one step of this call found another number, which it gives: then nothing changed.
+    pub fn serve(&self, pass: &mut Pass, word: u32, number: u32, op: Op) -> Served
+        requires pass { IsPassOf self.now pass.old }
+        requires word { word < length self.now.basis.first }
+        requires number { number < self.now.basis.terms.limit + self.now.basis.terms.callers }
+        ensures done { IfDone result (λ old. (pass.new ≡ with_entry pass.new.steps pass.old (entry_made pass.old word number op old)) × Follows pass.old.entries (entry_made pass.old word number op old)) }
+        ensures not_yet { IfNotYet result (λ seen. (seen ≢ number) × LookedAt pass.old pass.new word seen) }
+        ensures pass { IsPassOf self.now pass.new × (pass.new.caller ≡ pass.old.caller) }
+    {
+        self.words.serve(pass, word, number, op)
+    }
+
+    /// Ends the memory, once all callers have given their passes back: its words, and a history of all changes.
+    pub fn close(self, passes: Vec<Pass>) -> Closed
+        requires passes { ArePasses self.table passes.items × (length passes.items ≡ self.basis.terms.callers) }
+        ensures { (entries : List Entry) × Closes self.basis passes.items result entries }
+    {
+        let TagMemory { words } = self;
+        words.close(passes)
+    }
+}
