@@ -88,11 +88,10 @@ pub(crate) fn offer(shared: &Words, seat: &mut Place, word: u32, asked: u32, not
         joined(asked + 1, new),
         note,
     );
-    if found == seen {
-        Served::Done { old }
-    } else {
-        Served::NotYet {
+    if found != seen {
+        return Served::NotYet {
             seen: number(found),
-        }
+        };
     }
+    Served::Done { old }
 }
