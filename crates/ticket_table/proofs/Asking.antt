@@ -1,16 +1,16 @@
 -- The seat of one caller, which has looked at a word, may exchange it for what the caller's entry leaves.
-use Rattle.std.proofs.Common.{◌≡◌, ℕ, ◌+◌, ◌<◌, Bool, true, false, ◌||◌, List, [], ◌∷◌, length, eqb, refl, sym, ap, subst, ◌∙◌, eq-eqb}
+use Rattle.std.proofs.Common.{◌≡◌, ℕ, ◌+◌, ◌<◌, Bool, true, false, ◌||◌, List, length, eqb, refl, sym, ap, subst, ◌∙◌, eq-eqb}
 use mathlib.Core.Option.{some}
 use prog.Atomic.{either}
 use Rattle.atomic_table.specs.Table.{Me, step, Allows}
 use Rattle.rv_execute.specs.declared.op.Op.{Op}
 use Rattle.ticket_table.specs.declared.entry.Role.{Role}
-use Rattle.ticket_table.specs.declared.entry.Role.TheVariants.{Draw, Serve}
+use Rattle.ticket_table.specs.declared.entry.Role.TheVariants.{Serve}
 use Rattle.ticket_table.specs.declared.entry.Entry.{Entry}
 use Rattle.ticket_table.specs.declared.entry.View.{View}
 use Rattle.ticket_table.specs.declared.entry.Note.{Note}
 use Rattle.ticket_table.specs.Words.{number_of, payload_of, word_of}
-use Rattle.ticket_table.specs.History.{Basis, of_caller, has_spent, left_by}
+use Rattle.ticket_table.specs.History.{Basis, has_spent, left_by}
 use Rattle.ticket_table.specs.Views.{has, IsAlone, looked, looked_at}
 use Rattle.ticket_table.specs.Rule.{Kept, Exchanged}
 use Rattle.ticket_table.proofs.Changing.{Asks, exchanges}

@@ -1,22 +1,21 @@
 -- An exchange keeps the rule: won, it adds its entry to the history; lost, it is a look at the word.
 use Rattle.std.proofs.Common.{◌≡◌, ◌≢◌, ◌⊎◌, ℕ, ◌+◌, ◌<◌, ◌≤◌, Bool, true, false, eqb, List, [], ◌∷◌, ◌++◌, length, get_or, set, Some, refl, sym, ap, subst, ◌∙◌, inl, inr, arith, get_or-set_same, get_or-set_other, eq-eqb, ne_eqb}
 use Rattle.std.proofs.lemmas.Bool.{cases_eq}
-use Rattle.std.proofs.lemmas.List.{set-get_or}
 use Rattle.std.proofs.lemmas.List.Elements.{filter-append}
-use mathlib.Core.Option.{some, none}
+use mathlib.Core.Option.{some}
 use mathlib.Core.Logic.{dite}
 use native.Mathlib.Decide.{ℕ_discrete}
 use prog.Atomic.{either}
 use lib.ListN.{get_elem?}
-use Rattle.atomic_table.specs.Table.{State, Me, step, keeps, stepped, Allows}
+use Rattle.atomic_table.specs.Table.{State, Me, step, keeps, Allows}
 use Rattle.ticket_table.specs.declared.entry.Entry.{Entry}
 use Rattle.ticket_table.specs.declared.entry.View.{View}
 use Rattle.ticket_table.specs.declared.entry.Note.{Note}
 use Rattle.ticket_table.specs.declared.entry.Terms.{Terms}
 use Rattle.ticket_table.specs.Words.{number_of, payload_of, word_of}
-use Rattle.ticket_table.specs.History.{Basis, MayFollow, IsHistory, Leaves, of_caller, has_spent, left_by}
+use Rattle.ticket_table.specs.History.{Basis, MayFollow, of_caller, has_spent, left_by}
 use Rattle.ticket_table.specs.Views.{has, looked, grown, made}
-use Rattle.ticket_table.specs.Rule.{Fits, AreApart, KeptBy, Kept, Follows, Exchanged}
+use Rattle.ticket_table.specs.Rule.{Fits, KeptBy, Kept, Follows, Exchanged}
 use Rattle.ticket_table.proofs.Histories.{history_more, of_caller-other}
 use Rattle.ticket_table.proofs.Leaving.{leaves_more, number_of-word_of}
 use Rattle.ticket_table.proofs.Following.{follows_caller}

@@ -1,5 +1,5 @@
 -- Of a history, each entry of one caller at a word has a number below the word's count, and the last one left what the word holds.
-use Rattle.std.proofs.Common.{◌≡◌, ◌≢◌, ◌⊎◌, ℕ, zero, suc, ◌+◌, ◌<◌, List, [], ◌∷◌, ◌++◌, slice_get, slice_index, Option, Some, None, refl, sym, ap, subst, ◌∙◌, inl, inr, arith}
+use Rattle.std.proofs.Common.{◌≡◌, ◌≢◌, ◌⊎◌, ℕ, zero, suc, ◌+◌, ◌<◌, List, [], ◌∷◌, ◌++◌, slice_get, slice_index, Some, sym, ap, subst, ◌∙◌, inl, inr, arith}
 use Rattle.std.proofs.lemmas.Bool.{cases_eq}
 use Rattle.ticket_table.specs.declared.entry.Entry.{Entry}
 use Rattle.ticket_table.specs.History.{Basis, MayFollow, IsHistory, of_caller, count_at, left_at}

@@ -1,17 +1,16 @@
 -- A table whose words or one view change: when the rule still holds, and that a load keeps it.
-use Rattle.std.proofs.Common.{◌≡◌, ◌≢◌, ◌⊎◌, ℕ, ◌+◌, ◌<◌, ◌≤◌, Bool, true, false, List, [], ◌∷◌, ◌++◌, length, get_or, set, Some, refl, sym, ap, subst, ◌∙◌, inl, inr, arith, length-set, get_or-set_same, get_or-set_other}
+use Rattle.std.proofs.Common.{◌≡◌, ◌≢◌, ◌⊎◌, ℕ, ◌+◌, ◌<◌, Bool, true, false, List, length, get_or, set, refl, sym, ap, subst, ◌∙◌, inl, inr, arith}
 use Rattle.std.proofs.lemmas.List.{set-get_or}
-use Rattle.std.proofs.lemmas.Bool.Decides.{nat_tests, eqb_tells}
 use mathlib.Core.Option.{some, none}
 use lib.ListN.{get_elem?}
-use Rattle.atomic_table.specs.Table.{State, Me, step, keeps, stepped, Allows}
-use Rattle.atomic_table.proofs.Lists.{at_set, set_here}
+use Rattle.atomic_table.specs.Table.{Me, step, keeps, Allows}
+use Rattle.atomic_table.proofs.Lists.{at_set}
 use Rattle.ticket_table.specs.declared.entry.Entry.{Entry}
 use Rattle.ticket_table.specs.declared.entry.View.{View}
 use Rattle.ticket_table.specs.declared.entry.Note.{Note}
 use Rattle.ticket_table.specs.declared.entry.Terms.{Terms}
 use Rattle.ticket_table.specs.declared.entry.Role.TheVariants.{Draw}
-use Rattle.ticket_table.specs.Words.{number_of, payload_of}
+use Rattle.ticket_table.specs.Words.{number_of}
 use Rattle.ticket_table.specs.History.{Basis, IsHistory, Leaves, count_at, of_caller, has_spent}
 use Rattle.ticket_table.specs.Views.{has, looked}
 use Rattle.ticket_table.specs.Rule.{Fits, AreApart, KeptBy, Kept, Below, Looked}

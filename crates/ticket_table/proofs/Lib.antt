@@ -7,3 +7,5 @@ pub mod Changing
 pub mod Places
 pub mod Asking
 pub mod Sharing
+pub mod FreshPasses
+pub mod JoinedPasses

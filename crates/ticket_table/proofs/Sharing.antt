@@ -1,18 +1,16 @@
 -- Making a table, splitting a seat and joining two keep the rule.
-use Rattle.std.proofs.Common.{◌≡◌, ◌≢◌, ◌⊎◌, ℕ, zero, suc, ◌+◌, ◌/◌, ◌%◌, ◌<◌, ◌≤◌, Bool, true, false, ◌||◌, eqb, List, [], ◌∷◌, ◌++◌, length, get_or, set, map, Some, None, refl, sym, ap, subst, ◌∙◌, inl, inr, ⊎_elim, arith, eq-eqb, ne_eqb, append-nil, length-set}
-use Rattle.std.proofs.lemmas.Bool.{cases_eq, or_cases, or_left, or_right, eqb-true, true≢false, false_from_ne_true, or_from, or_parts, cases_Bool}
+use Rattle.std.proofs.Common.{◌≡◌, ◌≢◌, ◌⊎◌, ℕ, zero, suc, ◌+◌, ◌/◌, ◌<◌, ◌≤◌, Bool, true, false, ◌||◌, eqb, List, [], ◌∷◌, ◌++◌, length, get_or, set, refl, sym, ap, subst, ◌∙◌, inl, inr, ⊎_elim, arith, append-nil}
+use Rattle.std.proofs.lemmas.Bool.{or_cases, or_left, or_right, eqb-true, true≢false, false_from_ne_true, or_from, or_parts, cases_Bool}
 use Rattle.std.proofs.lemmas.List.Folds.{list_any-append}
 use Rattle.std.proofs.lemmas.List.Elements.{filter-append}
-use mathlib.Core.Option.{some, none, some-injective, some-ne-none}
+use mathlib.Core.Option.{some, some-injective, some-ne-none}
 use lib.ListN.{get_elem?}
-use Rattle.atomic_table.specs.Table.{State, opening, Splits, Joins}
+use Rattle.atomic_table.specs.Table.{opening, Splits, Joins}
 use Rattle.atomic_table.proofs.Lists.{at_set}
 use Rattle.ticket_table.specs.declared.entry.Entry.{Entry}
 use Rattle.ticket_table.specs.declared.entry.View.{View}
-use Rattle.ticket_table.specs.declared.entry.Note.{Note}
 use Rattle.ticket_table.specs.declared.entry.Terms.{Terms}
-use Rattle.ticket_table.specs.Words.{number_of, payload_of}
-use Rattle.ticket_table.specs.History.{Basis, IsHistory, Leaves, count_up, of_caller}
+use Rattle.ticket_table.specs.History.{Basis, Leaves, count_up, of_caller}
 use Rattle.ticket_table.specs.Views.{has, stock, opened, nobody, together}
 use Rattle.ticket_table.specs.Rule.{Fits, AreApart, KeptBy, Kept}
 use Rattle.ticket_table.proofs.Histories.{nothing_yet}
@@ -56,6 +54,7 @@ module _ (basis : Basis) (small : (word : ℕ) → word < length basis.first →
       fits : (i : ℕ) (v : View) → get_elem? (opened basis ∷ []) i ≡ some v → Fits basis [] basis.first v
       fits zero v e = subst (λ (u : View). Fits basis [] basis.first u) (some-injective (opened basis) v e) opened_fits
       fits (suc i) v e = absurd (some-ne-none v (sym e))
+
       apart : AreApart (opened basis ∷ [])
       apart zero zero v w c a b ne is = absurd (ne refl)
       apart zero (suc j) v w c a b ne is = absurd (some-ne-none w (sym b))
@@ -98,21 +97,26 @@ splits_stock basis id terms first rest s kept at = (kept.0, record { history = (
   where
     later : (c : ℕ) → has (count_up (suc first) rest) c ≡ true → has (count_up first (suc rest)) c ≡ true
     later c is = or_right (eqb first c) (has (count_up (suc first) rest) c) is
+
     alone : (c : ℕ) → has (count_up first 1) c ≡ true → has (count_up first (suc rest)) c ≡ true
     alone c is = by (or_cases (eqb first c) false is)
       where
         by : (eqb first c ≡ true) ⊎ (false ≡ true) → has (count_up first (suc rest)) c ≡ true
         by (inl hit) = or_left (eqb first c) (has (count_up (suc first) rest) c) hit
         by (inr miss) = absurd (true≢false (sym miss))
+
     views : List View
     views = set s.views id (stock terms (suc first) rest)
+
     whole : Fits basis kept.0 s.words (stock terms first (suc rest))
     whole = (kept.1).fits id (stock terms first (suc rest)) at
+
     left_kept : KeptBy basis s.words (set s.views id (stock terms (suc first) rest)) kept.0
     left_kept =
         kept_set basis s.words s.views kept.0 id (stock terms (suc first) rest) (kept.1).history (kept.1).leaves (λ j u _ e. (kept.1).fits j u e)
-            (fewer_fits basis kept.0 s.words terms first (suc rest) (suc first) rest whole later)
-            (apart_set s.views id (stock terms first (suc rest)) (stock terms (suc first) rest) at later (kept.1).apart)
+        (fewer_fits basis kept.0 s.words terms first (suc rest) (suc first) rest whole later)
+        (apart_set s.views id (stock terms first (suc rest)) (stock terms (suc first) rest) at later (kept.1).apart)
+
     fits : (j : ℕ) (v : View) → get_elem? (set s.views id (stock terms (suc first) rest) ++ stock terms first 1 ∷ []) j ≡ some v → Fits basis kept.0 s.words v
     fits j v e = by (at_end (set s.views id (stock terms (suc first) rest)) (stock terms first 1) v j e)
       where
@@ -120,6 +124,7 @@ splits_stock basis id terms first rest s kept at = (kept.0, record { history = (
             → Fits basis kept.0 s.words v
         by (inl old) = left_kept.fits j v old
         by (inr new) = subst (λ (u : View). Fits basis kept.0 s.words u) new.1 (fewer_fits basis kept.0 s.words terms first (suc rest) first 1 whole alone)
+
     apart : AreApart (set s.views id (stock terms (suc first) rest) ++ stock terms first 1 ∷ [])
     apart = apart_more (set s.views id (stock terms (suc first) rest)) (stock terms first 1) left_kept.apart disjoint
       where
@@ -138,10 +143,10 @@ splits_stock basis id terms first rest s kept at = (kept.0, record { history = (
 -- ---- join
 
 -- the callers of two lists
-has_both : (xs ys : List ℕ) (c : ℕ) → has (xs ++ ys) c ≡ (has xs c || has ys c)
+pub has_both : (xs ys : List ℕ) (c : ℕ) → has (xs ++ ys) c ≡ (has xs c || has ys c)
 has_both xs ys c = list_any-append (λ x. eqb x c) xs ys
 
-of_both : (c : ℕ) (xs ys : List Entry) → of_caller c (xs ++ ys) ≡ of_caller c xs ++ of_caller c ys
+pub of_both : (c : ℕ) (xs ys : List Entry) → of_caller c (xs ++ ys) ≡ of_caller c xs ++ of_caller c ys
 of_both c xs ys = filter-append (λ (x : Entry). eqb x.caller c) xs ys
 
 module _ (basis : Basis) (h : List Entry) (words : List ℕ) (v w : View) (v_fits : Fits basis h words v) (w_fits : Fits basis h words w)
@@ -190,6 +195,7 @@ after_join views id other v w i u e = first (at_set (set views id (together v w)
     second : i ≢ other → ((i ≡ id) × (together v w ≡ u)) ⊎ ((i ≢ id) × (get_elem? views i ≡ some u)) → After views id other v w i u
     second apart (inl same) = joined same.0 same.1
     second apart (inr rest) = stayed apart rest.0 rest.1
+
     first : ((i ≡ other) × (nobody ≡ u)) ⊎ ((i ≢ other) × (get_elem? (set views id (together v w)) i ≡ some u)) → After views id other v w i u
     first (inl same) = spent same.0 same.1
     first (inr rest) = second rest.0 (at_set views id i (together v w) u rest.1)
@@ -200,15 +206,18 @@ module _ (views : List View) (apart : AreApart views) (id other : ℕ) (v w : Vi
     where
       nothing : nobody ≡ a → has b.callers c ≡ false
       nothing same = absurd (true≢false (sym is ∙ ap (λ (u : View). has u.callers c) (sym same)))
+
       with_both : i ≢ other → i ≢ id → get_elem? views i ≡ some a → together v w ≡ b → has b.callers c ≡ false
       with_both not_other not_id old same =
           let left = apart i id a v c old at not_id is in
           let right = apart i other a w c old there not_other is in
           ap (λ (u : View). has u.callers c) (sym same) ∙ (has_both v.callers w.callers c ∙ or_from (has v.callers c) (has w.callers c) left right)
+
       from_both : together v w ≡ a → j ≢ other → j ≢ id → get_elem? views j ≡ some b → has b.callers c ≡ false
       from_both same not_other not_id old =
           ⊎_elim (λ left. apart id j v b c at old (λ e. not_id (sym e)) left) (λ right. apart other j w b c there old (λ e. not_other (sym e)) right)
           (or_cases (has v.callers c) (has w.callers c) (sym (has_both v.callers w.callers c) ∙ (ap (λ (u : View). has u.callers c) same ∙ is)))
+
       by : After views id other v w i a → After views id other v w j b → has b.callers c ≡ false
       by (spent _ same) b_is = nothing same
       by a_is (spent _ same) = ap (λ (u : View). has u.callers c) (sym same)
@@ -222,6 +231,7 @@ joins basis id v other w s kept at ne after = (kept.0, record { history = (kept.
   where
     there : get_elem? s.views other ≡ some w
     there = ⊎_elim (λ same. absurd (ne same.0)) (λ rest. rest.1) (at_set s.views id other (together v w) w after)
+
     fits : (i : ℕ) (u : View) → get_elem? (set (set s.views id (together v w)) other nobody) i ≡ some u → Fits basis kept.0 s.words u
     fits i u e = by (after_join s.views id other v w i u e)
       where

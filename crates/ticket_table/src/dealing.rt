@@ -40,7 +40,9 @@ pub(crate) fn deal(
             caller,
             spent: false,
         };
-        passes.push(pass).map_err(|_| NoMemory)?;
+        let Ok(()) = passes.push(pass) else {
+            return Err(NoMemory);
+        };
     }
     Ok(passes)
 }

@@ -1,13 +1,12 @@
-use Rattle.std.proofs.Common.{◌≡◌, ℕ, ◌+◌, ◌≤◌, take, length, vec_len}
-use Rattle.ticket_table.specs.Gathered.{HasFrom}
+use Rattle.std.proofs.Common.{◌≡◌, vec_len}
+use Rattle.ticket_table.proofs.JoinedPasses.{SoFar}
 use Rattle.ticket_table.proofs.gathering.gather.Given as goal
 
 abbrev pub invariant-loop-pass : goal.invariant-loop-pass
 invariant-loop-pass l =
     record {
       table : l.seat.table_id ≡ l.shared.table_id;
-      left : l.passes.items ≡ take (length l.passes.items) l.fn.passes.items;
-      has : HasFrom (length l.passes.items) l.fn.passes.items l.seat.me.0;
+      so_far : SoFar l.fn.passes.items l.passes.items l.seat.me.0;
     }
 
 abbrev pub decreases-loop-pass : goal.decreases-loop-pass

@@ -1,4 +1,4 @@
-use Rattle.std.proofs.Common.{◌≡◌, ℕ, ◌+◌, ◌-◌, ◌<◌}
+use Rattle.std.proofs.Common.{◌≡◌, ◌+◌, ◌-◌, ◌<◌}
 use Rattle.ticket_table.specs.Words.{number_of}
 use Rattle.ticket_table.specs.Views.{looked_at}
 use Rattle.ticket_table.proofs.steps.draw.Given as goal

@@ -1,4 +1,4 @@
-use Rattle.std.proofs.Common.{◌≡◌, ℕ, ◌+◌, ◌<◌, refl, sym, ap, subst, ◌∙◌, arith, eqb-true}
+use Rattle.std.proofs.Common.{◌≡◌, ℕ, ◌+◌, ◌<◌, refl, sym, ap, subst, ◌∙◌, arith}
 use Rattle.ticket_table.specs.declared.entry.Role.TheVariants.{Serve}
 use Rattle.ticket_table.specs.Words.{number_of, payload_of, word_of}
 use Rattle.ticket_table.specs.Rule.{basis_of}
