@@ -8,6 +8,9 @@ use Rattle.ticket_table.specs.History.{Basis, MayFollow, IsHistory, of_word, of_
 
 -- ---- one entry more
 
+cons_same : (x y : Entry) (xs ys : List Entry) → x ≡ y → xs ≡ ys → x ∷ xs ≡ y ∷ ys
+cons_same x y xs ys head tail = cc
+
 -- an entry at the end is the one that a part names, or stands behind it
 ends : (h before after : List Entry) (e f : Entry) → h ++ e ∷ [] ≡ before ++ f ∷ after
     → ((h ≡ before) × (e ≡ f)) ⊎ ((rest : List Entry) × (h ≡ before ++ f ∷ rest))
@@ -17,16 +20,11 @@ ends [] (b ∷ before) after e f same = absurd (nothing before same)
     nothing : (before : List Entry) → e ∷ [] ≡ b ∷ (before ++ f ∷ after) → ⊥
     nothing [] same = cc
     nothing (c ∷ before) same = cc
-ends (x ∷ h) [] after e f same =
-    let first : x ≡ f = cc in
-    inr (h, ap (λ (y : Entry). y ∷ h) first)
+ends (x ∷ h) [] after e f same = inr (h, cons_same x f h h (cc) refl)
 ends (x ∷ h) (b ∷ before) after e f same =
-    let first : x ≡ b = cc in
+    let head : x ≡ b = cc in
     let tail : h ++ e ∷ [] ≡ before ++ f ∷ after = cc in
-    ⊎_elim
-    (λ t. inl (ap (λ (y : Entry). y ∷ h) first ∙ ap (λ (ys : List Entry). b ∷ ys) t.0, t.1))
-    (λ t. inr (t.0, ap (λ (y : Entry). y ∷ h) first ∙ ap (λ (ys : List Entry). b ∷ ys) t.1))
-    (ends h before after e f tail)
+    ⊎_elim (λ t. inl (cons_same x b h before head t.0, t.1)) (λ t. inr (t.0, cons_same x b h (before ++ f ∷ t.0) head t.1)) (ends h before after e f tail)
 
 module _ (basis : Basis) where
   pub nothing_yet : IsHistory basis []

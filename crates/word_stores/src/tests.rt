@@ -54,13 +54,25 @@ fn shared_memory_begins_with_the_words_of_its_image(rt: HostRuntime) -> Result<(
         (2, lengthen, 0x0001_1000),
     ] {
         let taken = memory.access(&mut pass, word, op);
-        assert_eq!(rt; (taken.number, taken.old, taken.spent), (0, old, false), "word {word}");
+        assert_eq!(rt;
+            (taken.number, taken.old, taken.spent),
+            (0, old, false),
+            "word {word}"
+        );
     }
     passes.push(pass)?;
     let closed = memory.close(passes);
-    for (word, left, count) in [(2, 0x0001_1010, 1), (3, 0x0000_0513, 1), (4, 0x05d0_0893, 0)] {
+    for (word, left, count) in [
+        (2, 0x0001_1010, 1),
+        (3, 0x0000_0513, 1),
+        (4, 0x05d0_0893, 0),
+    ] {
         let found = closed.word(word);
-        assert_eq!(rt; (payload(found), number(found)), (left, count), "word {word}");
+        assert_eq!(rt;
+            (payload(found), number(found)),
+            (left, count),
+            "word {word}"
+        );
     }
     Ok(())
 }
@@ -69,13 +81,19 @@ fn shared_memory_begins_with_the_words_of_its_image(rt: HostRuntime) -> Result<(
 fn tags_are_served_in_order(rt: HostRuntime) -> Result<(), Fail> {
     let (memory, mut passes) = TagMemory::create(rt.alloc(), 4, 1, 10)?;
     let mut pass = passes.pop().ok_or("a pass")?;
-    let write = Op::Write {
-        mask: 15,
-        value: 9,
-    };
-    assert_eq!(rt; memory.serve(&mut pass, 3, 1, Op::Read), Served::NotYet { seen: 0 });
-    assert_eq!(rt; memory.serve(&mut pass, 3, 0, write), Served::Done { old: 0 });
-    assert_eq!(rt; memory.serve(&mut pass, 3, 1, Op::Read), Served::Done { old: 9 });
+    let write = Op::Write { mask: 15, value: 9 };
+    assert_eq!(rt;
+        memory.serve(&mut pass, 3, 1, Op::Read),
+        Served::NotYet { seen: 0 }
+    );
+    assert_eq!(rt;
+        memory.serve(&mut pass, 3, 0, write),
+        Served::Done { old: 0 }
+    );
+    assert_eq!(rt;
+        memory.serve(&mut pass, 3, 1, Op::Read),
+        Served::Done { old: 9 }
+    );
     passes.push(pass)?;
     let closed = memory.close(passes);
     assert_eq!(rt; (payload(closed.word(3)), number(closed.word(3))), (9, 2));
