@@ -8,6 +8,7 @@ use elf_image::Image;
 use std::alloc::Global;
 
 /// The first words of an image.
+#[tactic(auto, using(crate::proofs::FirstPayloads::map_more))]
 pub(crate) fn first_payloads(alloc: Global, image: &Image) -> Result<Vec<u32>, NoMemory>
     ensures { IfOk result (λ payloads. payloads.items ≡ first_words image.now) }
 {

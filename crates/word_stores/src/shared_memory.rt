@@ -1,6 +1,7 @@
 //! The words of an image, shared by the cores of a run.
 
 ghost use Rattle.std.specs.Prelude.{◌≡◌, ◌+◌, ◌<◌, ◌≤◌, false, List, length, nat_le, IfOk};
+ghost use Rattle.elf_image.specs.Layout.{words_of};
 ghost use Rattle.ticket_table.specs.declared.entry.Role.TheVariants.{Draw};
 ghost use Rattle.ticket_table.specs.declared.entry.Entry.{Entry};
 ghost use Rattle.ticket_table.specs.Passes.{IsPassOf, is_spent, entry_made, with_entry, AreFresh, ArePasses, Closes};
@@ -36,6 +37,7 @@ impl Model for SharedMemory {
 impl SharedMemory {
     /// The first words of an image, with a pass for each of the callers 0, 1, 2 and so on. From `limit` on the accesses to a word
     /// are spent.
+    #[tactic(auto, using(crate::proofs::FirstPayloads::first_words_count, crate::proofs::FirstPayloads::some_word))]
     pub fn create(
         alloc: Global,
         image: &Image,
@@ -45,6 +47,7 @@ impl SharedMemory {
         requires callers { 0 < callers }
         requires room { limit + callers ≤ 4294967294 }
         ensures basis { IfOk result (λ made. made.0.basis ≡ record { terms = record { role = Draw; limit = limit; callers = callers }; first = first_words image.now }) }
+        ensures words { IfOk result (λ made. length made.0.basis.first ≡ words_of image.now) }
         ensures passes { IfOk result (λ made. AreFresh made.0 made.1.items) }
     {
         let payloads = first_payloads(alloc, image)?;
