@@ -137,6 +137,14 @@ fn echo_image(alloc: Global) -> Result<Vec<u8>, AllocError> {
     Ok(bytes)
 }
 
+fn strings(alloc: Global, words: &[&str]) -> Result<Vec<String>, AllocError> {
+    let mut strings = Vec::new(alloc);
+    for word in words {
+        strings.push(String::from_str(alloc, word)?)?;
+    }
+    Ok(strings)
+}
+
 /// The words that run the guest.
 const RUN: [&str; 3] = ["run", "--image", "guest.elf"];
 
@@ -162,13 +170,10 @@ impl Surroundings {
 
     /// The status of a command.
     fn command(&mut self, alloc: Global, words: &[&str]) -> Result<u8, AllocError> {
-        let mut strings = Vec::new(alloc);
-        for word in words {
-            strings.push(String::from_str(alloc, word)?)?;
-        }
+        let words = strings(alloc, words)?;
         Ok(command(
             alloc,
-            &strings,
+            &words,
             &mut self.files,
             &mut self.out,
             &mut self.report,
