@@ -6,3 +6,4 @@ pub mod SmallFaults
 pub mod Turns
 pub mod EndOrStop
 pub mod Completing
+pub mod Delivering
