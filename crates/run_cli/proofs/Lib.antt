@@ -1,2 +1,9 @@
 mod ThreeWords
 pub mod Plain
+pub mod SmallHeaders
+pub mod SmallMap
+pub mod SmallFaults
+pub mod Turns
+pub mod EndOrStop
+pub mod Completing
+pub mod Delivering

@@ -8,7 +8,8 @@ use Rattle.machine.specs.Runs.{along, IsComplete}
 use Rattle.machine.specs.Outcomes.{output, status_class}
 use Rattle.trap_report.specs.Text.{text}
 use Rattle.run_cli.specs.Words.{RunsImage}
-use Rattle.run_cli.specs.Runs.{setup_of, turns, IsAccepted, Stops}
+use Rattle.run_cli.specs.SmallImage.{IsSmallImage}
+use Rattle.run_cli.specs.Runs.{setup_of, turns, Stops}
 use Rattle.run_cli.specs.declared.ending.Ending.{Ending}
 use Rattle.run_cli.specs.declared.ending.Ending.TheVariants.{Class, Words, Image, Later, Memory, Read, Write}
 
@@ -47,18 +48,18 @@ pub record IsLong (words : List (List ℕ)) (old : FilesSeen) : Type 0 where
   pub named : RunsImage words name
   pub told : IfSome (old.held name) (λ bytes. 4180 < length bytes)
 
--- it is of another form, or has a fault
+-- it is of another form than those that are loaded today
 pub record IsOfOtherForm (words : List (List ℕ)) (old : FilesSeen) : Type 0 where
   pub bytes : List ℕ
   pub image : IsImage words old bytes
   pub within : 52 ≤ length bytes
-  pub other : IsAccepted bytes → ⊥
+  pub other : IsSmallImage bytes → ⊥
 
 -- its core came to a unit that is not built yet
 pub record HasStopped (words : List (List ℕ)) (old : FilesSeen) : Type 0 where
   pub bytes : List ℕ
   pub image : IsImage words old bytes
-  pub accepted : IsAccepted bytes
+  pub small : IsSmallImage bytes
   pub count : ℕ
   pub stops : Stops (setup_of bytes) count
 
@@ -86,7 +87,7 @@ Caused words old new Write = ⊥
 -- the image's core ran to its end in so many units
 pub record HasRun (words : List (List ℕ)) (old new : FilesSeen) (bytes : List ℕ) (count : ℕ) : Type 0 where
   pub image : IsImage words old bytes
-  pub accepted : IsAccepted bytes
+  pub small : IsSmallImage bytes
   pub ends : IsComplete (setup_of bytes) (turns count)
   pub calm : IsCalm old new
 

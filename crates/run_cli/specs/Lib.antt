@@ -1,6 +1,9 @@
 pub mod Words
 pub mod SmallImage
+pub mod SmallLaws
 pub mod Runs
 pub mod Endings
+pub mod Completeness
+pub mod RunLaws
 pub mod Preparing
 pub mod Stepping

@@ -3,7 +3,8 @@ use Rattle.std.specs.Prelude.{◌≡◌, ℕ, ◌<◌, ◌≤◌, List, length}
 use Rattle.machine.specs.Setups.{Setup}
 use Rattle.machine.specs.Runs.{IsComplete}
 use Rattle.inline_tracker.specs.Finished.{Seen, IsFinishedRun}
-use Rattle.run_cli.specs.Runs.{setup_of, turns, IsAccepted, Stops}
+use Rattle.run_cli.specs.SmallImage.{IsSmallImage}
+use Rattle.run_cli.specs.Runs.{setup_of, turns, Stops}
 use Rattle.run_cli.specs.Endings.{FilesSeen, SinksSeen, IsImage, IsCalm, Delivered}
 use Rattle.run_cli.specs.declared.ending.Ending.{Ending}
 use Rattle.run_cli.specs.declared.ending.Ending.TheVariants.{Class, Words, Image, Later, Memory, Read, Write}
@@ -11,7 +12,7 @@ use Rattle.run_cli.specs.declared.ending.Ending.TheVariants.{Class, Words, Image
 -- why the bytes of a file are refused
 pub record IsOther (bytes : List ℕ) : Type 0 where
   pub within : 52 ≤ length bytes
-  pub other : IsAccepted bytes → ⊥
+  pub other : IsSmallImage bytes → ⊥
 
 abbrev pub RefusesImage : List ℕ → Ending → Type 0
 RefusesImage bytes (Class class) = ⊥
@@ -46,7 +47,7 @@ RefusesRun s Write = ⊥
 pub record IsPrepared (words : List (List ℕ)) (old new : FilesSeen) (s : Setup) (finished : Seen) : Type 0 where
   pub bytes : List ℕ
   pub image : IsImage words old bytes
-  pub accepted : IsAccepted bytes
+  pub small : IsSmallImage bytes
   pub calm : IsCalm old new
   pub setup_is : s ≡ setup_of bytes
   pub ran : HasRunTo s finished

@@ -1,10 +1,8 @@
 -- The run of an image by itself: one core, no input, no policy, and the usual numbers.
 use Rattle.std.specs.Prelude.{◌≡◌, ℕ, false, None, List, [], replicate}
-use Rattle.elf_image.specs.ImageFault.{image_fault}
 use Rattle.syscall_drain.specs.Built.{is_built}
 use Rattle.machine.specs.Setups.{Setup}
 use Rattle.machine.specs.Runs.{along, IsPlayable}
-use Rattle.run_cli.specs.SmallImage.{IsSmallImage}
 
 abbrev pub setup_of : List ℕ → Setup
 setup_of bytes = record {
@@ -13,11 +11,6 @@ setup_of bytes = record {
   budget = 1048576;
   limit = 4294967280;
 }
-
--- a small image without a fault
-pub record IsAccepted (bytes : List ℕ) : Type 0 where
-  pub small : IsSmallImage bytes
-  pub sound : image_fault bytes 1 16 256 ≡ None
 
 -- so many units of core 0
 abbrev pub turns : ℕ → List ℕ

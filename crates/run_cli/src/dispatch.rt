@@ -2,6 +2,7 @@
 ghost use Rattle.std.specs.Prelude.{◌≡◌, map, string_bytes};
 ghost use Rattle.run_cli.specs.declared.ending.Ending.{Ending as EndingSeen};
 ghost use Rattle.run_cli.specs.Endings.{Ended, status_of};
+ghost use Rattle.run_cli.specs.Completeness.{Completes};
 
 use crate::deliver::{deliver, refuse};
 use crate::ending::Ending;
@@ -67,6 +68,12 @@ pub fn command<F: Files, O: Sink, R: Sink>(
         (record { out = record { written = O.written out.old; faults = O.faults out.old }; report = record { written = R.written report.old; faults = R.faults report.old } })
         (record { out = record { written = O.written out.new; faults = O.faults out.new }; report = record { written = R.written report.new; faults = R.faults report.new } })
         ending }
+    ensures completes { Completes (map string_bytes words.now)
+        (record { held = F.held files.old; faults = F.faults files.old })
+        (record { held = F.held files.new; faults = F.faults files.new })
+        (record { out = record { written = O.written out.old; faults = O.faults out.old }; report = record { written = R.written report.old; faults = R.faults report.old } })
+        (record { out = record { written = O.written out.new; faults = O.faults out.new }; report = record { written = R.written report.new; faults = R.faults report.new } })
+        result }
 {
     status(conclude(alloc, words, files, out, report))
 }

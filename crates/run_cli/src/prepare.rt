@@ -1,6 +1,7 @@
 //! From the words of a command line to a finished run.
 ghost use Rattle.std.specs.Prelude.{◌≡◌, ℕ, List, [], map, string_bytes, IfOk, IfErr};
-ghost use Rattle.run_cli.specs.Runs.{setup_of, IsAccepted};
+ghost use Rattle.run_cli.specs.SmallImage.{IsSmallImage};
+ghost use Rattle.run_cli.specs.Runs.{setup_of};
 ghost use Rattle.run_cli.specs.Endings.{IsImage, IsCalm, Caused};
 ghost use Rattle.run_cli.specs.Preparing.{RefusesImage, RefusesRun, HasRunTo, IsPrepared};
 
@@ -48,10 +49,11 @@ fn read_image<F: Files>(alloc: Global, words: &[String], files: &mut F) -> Resul
     }
 }
 
-/// The image of a file, if it is one of those that are loaded today.
+/// The image of a file, if it is one of those that are loaded today. These have no fault.
+#[tactic(auto, using(crate::proofs::SmallFaults::small_is_sound))]
 fn load_small(alloc: Global, bytes: &[u8]) -> Result<Image, Ending>
     ensures image { IfOk result (λ image. image ≡ (setup_of bytes.now).program.layout) }
-    ensures accepted { IfOk result (λ _. IsAccepted bytes.now) }
+    ensures small { IfOk result (λ _. IsSmallImage bytes.now) }
     ensures refused { IfErr result (RefusesImage bytes.now) }
 {
     if bytes.len() < HEADER_BYTES {

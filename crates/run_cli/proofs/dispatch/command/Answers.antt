@@ -1,0 +1,5 @@
+use Rattle.run_cli.proofs.Completing.{completes}
+use Rattle.run_cli.proofs.dispatch.command.Goals as goal
+
+pub returns-clause-completes : goal.returns-clause-completes
+returns-clause-completes g c = rw c.status.ensures (completes _ _ _ _ _ c.conclude.result c.conclude.ensures)
