@@ -45,9 +45,9 @@ with_entry steps p e = record { table = p.table; terms = p.terms; caller = p.cal
 abbrev pub with_look : ℕ → PassSeen → ℕ → ℕ → PassSeen
 with_look steps p word found = record { table = p.table; terms = p.terms; caller = p.caller; entries = p.entries; last = Some (word, found); steps = steps }
 
--- a pass became another by a look, which found the word with this number; else it stayed
+-- a pass became another by steps of which the last one found the word with this number; else it stayed
 abbrev pub LookedAt : PassSeen → PassSeen → ℕ → ℕ → Type 0
-LookedAt p q word number = (found : ℕ) × (number ≡ number_of found) × (q ≡ with_look q.steps p word found)
+LookedAt p q word number = (found : ℕ) × (number ≡ number_of found) × (p.steps < q.steps) × (q ≡ with_look q.steps p word found)
 
 -- P of the payload found, where the ticket was served, and of the number seen, where it was not yet its turn
 abbrev pub IfDone : Served → (ℕ → Type 0) → Type 0

@@ -16,9 +16,8 @@ mod tickets;
 mod word;
 
 pub use closed::Closed;
-pub use entry::{Entry, Note, Role, Setting, Terms, View};
+pub use entry::{Entry, Role, Terms};
 pub use pass::Pass;
-pub use rule::Tickets;
 pub use served::Served;
 pub use tickets::TicketTable;
 pub use word::{number, payload};

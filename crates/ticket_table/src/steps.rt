@@ -73,7 +73,7 @@ pub(crate) fn offer(shared: &Words, seat: &mut Place, word: u32, asked: u32, not
     requires terms { (seat.old.me.0.terms.role ≡ Serve) × (asked < seat.old.me.0.terms.limit + seat.old.me.0.terms.callers) × (seat.old.me.0.terms.limit + seat.old.me.0.terms.callers ≤ 4294967294) }
     ensures seat { seat.new.table_id ≡ seat.old.table_id }
     ensures done { IfDone result (λ old. (seat.new.me ≡ (grown_at seat.new.me.0.steps seat.old.me.0 (made seat.old.me.0.terms note.now.caller word asked note.now.op old), seat.old.me.1)) × Follows seat.old.me.0.mine (made seat.old.me.0.terms note.now.caller word asked note.now.op old)) }
-    ensures not_yet { IfNotYet result (λ seen. (seen ≢ asked) × ((found : ℕ) × (seen ≡ number_of found) × (seat.new.me ≡ (looked_at seat.new.me.0.steps seat.old.me.0 word found, seat.old.me.1)))) }
+    ensures not_yet { IfNotYet result (λ seen. (seen ≢ asked) × ((found : ℕ) × (seen ≡ number_of found) × (seat.old.me.0.steps < seat.new.me.0.steps) × (seat.new.me ≡ (looked_at seat.new.me.0.steps seat.old.me.0 word found, seat.old.me.1)))) }
 {
     let seen = shared.load::<Looks>(seat, word as usize);
     if number(seen) != asked {
@@ -88,11 +88,10 @@ pub(crate) fn offer(shared: &Words, seat: &mut Place, word: u32, asked: u32, not
         joined(asked + 1, new),
         note,
     );
-    if found == seen {
-        Served::Done { old }
-    } else {
-        Served::NotYet {
+    if found != seen {
+        return Served::NotYet {
             seen: number(found),
-        }
+        };
     }
+    Served::Done { old }
 }
