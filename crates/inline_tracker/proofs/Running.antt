@@ -22,8 +22,8 @@ use Rattle.inline_tracker.proofs.Standing.{at_stand, plain_of, took_stands}
 -- while a core goes on, the order has room
 pub room_in : (s : Setup) (run : Run) (c : ℕ) → Stands s run → c < length run.seats.items → (core_along s run c).local.ending ≡ None → length run.order.items < run.order.room
 room_in s run c h below running =
-    let h' = h.along_order in
-    rw h.order_room (room_left s (plain_of s run.order.items run.seats.items run.cells.items run.output.items h') run.order.items h'.playable c (omega (arith, h'.count)) running)
+    let stand = h.along_order in
+    rw h.order_room (room_left s (plain_of s run.order.items run.seats.items run.cells.items run.output.items stand) run.order.items stand.playable c (omega (arith, stand.count)) running)
 
 -- the seat of a core is that core
 pub seat_core : (s : Setup) (run : Run) (c : ℕ) (seat : Seat) → Stands s run → c < length run.seats.items → seat ≡ slice_index_or run.seats.items c seat → core_in seat ≡ core_along s run c
@@ -40,10 +40,10 @@ seat_notes s run c seat h below is =
 -- a word has few accesses
 pub cell_few : (s : Setup) (run : Run) (n : ℕ) → Stands s run → n < length run.cells.items → (cell_of run.cells.items n).count ≤ 536870912
 cell_few s run n h within =
-    let h' = h.along_order in
-    let at = at_stand s run.order.items run.seats.items run.cells.items run.output.items h' in
-    let few = few_units s (plain_of s run.order.items run.seats.items run.cells.items run.output.items h') (along s run.order.items) (length run.order.items) at.reached in
-    rw (h'.cells_are n within) (omega (arith, few, at.reached.accesses n))
+    let stand = h.along_order in
+    let at = at_stand s run.order.items run.seats.items run.cells.items run.output.items stand in
+    let few = few_units s (plain_of s run.order.items run.seats.items run.cells.items run.output.items stand) (along s run.order.items) (length run.order.items) at.reached in
+    rw (stand.cells_are n within) (omega (arith, few, at.reached.accesses n))
 
 -- what has been put out is no more than four bytes a unit
 pub output_few : (s : Setup) (order : List ℕ) (seats : List Seat) (cells : List Cell) (output : List ℕ) → StandsAlong s order seats cells output → length output ≤ 4 * length order
@@ -64,16 +64,16 @@ pub access_stands : (s : Setup) (run : Run) (c n : ℕ) (op : Op) (seat after : 
     IsSeated s.budget after → place ≡ placed s.program (local_in seat) (Took taken) → OnSome place ((local_in after).gathered ≡ (local_in seat).gathered) →
     StandsAlong s (run.order.items ++ c ∷ []) (slice_set run.seats.items c after) (slice_set run.cells.items n (cell_after s.limit op (cell_of run.cells.items n))) (run.output.items ++ bytes_placed place (local_in after).gathered)
 access_stands s run c n op seat after taken place h below within seat_is running asks taken_is core_rule log_is seated place_is kept =
-    let h' = h.along_order in
-    let at = at_stand s run.order.items run.seats.items run.cells.items run.output.items h' in
+    let stand = h.along_order in
+    let at = at_stand s run.order.items run.seats.items run.cells.items run.output.items stand in
     let word : Word = (along s run.order.items).words n in
-    let cell : cell_of run.cells.items n ≡ cell_at word = h'.cells_are n within in
+    let cell : cell_of run.cells.items n ≡ cell_at word = stand.cells_are n within in
     let told_is : told s word ≡ taken = rw (taken_is, cell) refl in
     let same : core_in seat ≡ core_along s run c = seat_core s run c seat h below seat_is in
     let local : local_in seat ≡ (core_along s run c).local = ap (λ (core : Core). core.local) same in
     let bytes : bytes_placed place (local_in after).gathered ≡ bytes_placed (placed s.program (core_along s run c).local (Took (told s word))) (core_along s run c).local.gathered =
     placed_bytes place (local_in after).gathered (local_in seat).gathered kept ∙ rw (place_is, told_is, ← local) refl in
-    took_stands s run.order.items run.seats.items run.cells.items run.output.items c n op seat after (bytes_placed place (local_in after).gathered) h' below within seat_is running asks
+    took_stands s run.order.items run.seats.items run.cells.items run.output.items c n op seat after (bytes_placed place (local_in after).gathered) stand below within seat_is running asks
     (core_rule word (at.reached.tags n) told_is)
     (log_is ∙ rw taken_is refl)
     seated bytes

@@ -39,9 +39,9 @@ asks_after_look v steps word seen new second note alone unspent below is small w
     }
 
 -- what is left, of equal parts
-pub left_alike : (role role' : Role) (limit limit' : ℕ) (op : Op) (number number' old old' new : ℕ) → role ≡ role' → limit ≡ limit' → number ≡ number' → old ≡ old' → new ≡ left_by role limit op number old
-    → new ≡ left_by role' limit' op number' old'
-left_alike role role' limit limit' op number number' old old' new r l n p is = is ∙ (λ i. left_by (r i) (l i) op (n i) (p i))
+pub left_alike : (role other_role : Role) (limit other_limit : ℕ) (op : Op) (number other_number old other_old new : ℕ) → role ≡ other_role → limit ≡ other_limit → number ≡ other_number → old ≡ other_old → new ≡ left_by role limit op number old
+    → new ≡ left_by other_role other_limit op other_number other_old
+left_alike role other_role limit other_limit op number other_number old other_old new r l n p is = is ∙ (λ i. left_by (r i) (l i) op (n i) (p i))
 
 -- the same of the seat as it is, where it is as it was but for the look
 pub exchanges_after_look : (basis : Basis) (slots id word : ℕ) (me old_me : Me Note View) (seen new second : ℕ) (note : Note) → word < length basis.first

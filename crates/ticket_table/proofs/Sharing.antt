@@ -81,9 +81,9 @@ apart_more views w apart new i j a b c ia jb ne is = by (at_end views w a i ia) 
     by (inr new_i) (inr new_j) = absurd (ne (new_i.0 ∙ sym new_j.0))
 
 -- fewer callers with no entry yet
-fewer_fits : (basis : Basis) (h : List Entry) (words : List ℕ) (terms : Terms) (first count first' count' : ℕ) → Fits basis h words (stock terms first count)
-    → ((c : ℕ) → has (count_up first' count') c ≡ true → has (count_up first count) c ≡ true) → Fits basis h words (stock terms first' count')
-fewer_fits basis h words terms first count first' count' fits fewer =
+fewer_fits : (basis : Basis) (h : List Entry) (words : List ℕ) (terms : Terms) (first count fewer_first fewer_count : ℕ) → Fits basis h words (stock terms first count)
+    → ((c : ℕ) → has (count_up fewer_first fewer_count) c ≡ true → has (count_up first count) c ≡ true) → Fits basis h words (stock terms fewer_first fewer_count)
+fewer_fits basis h words terms first count fewer_first fewer_count fits fewer =
     record {
       same = fits.same;
       bounds = λ c is. fits.bounds c (fewer c is);
