@@ -1,5 +1,5 @@
 -- The seat of the callers that have no pass yet, and the next caller's.
-use Rattle.std.proofs.Common.{◌≡◌, ℕ, zero, suc, ◌+◌, ◌<◌, false, List, [], ◌∷◌, ◌++◌, None, refl, sym, ap, subst, ◌∙◌, arith, append_assoc, add-one}
+use Rattle.std.proofs.Common.{◌≡◌, ℕ, zero, suc, ◌+◌, ◌<◌, false, List, [], ◌∷◌, ◌++◌, None, refl, sym, ap, subst, ◌∙◌, arith, append_assoc}
 use Rattle.atomic_table.specs.Table.{Me, Splits}
 use Rattle.atomic_table.specs.Seated.{TableId}
 use Rattle.ticket_table.specs.declared.entry.Role.{Role}
@@ -60,9 +60,8 @@ deals table terms callers caller me passes p below so_far is next after = by so_
     by zero count stands dealt = absurd (omega arith)
     by (suc rest) count stands dealt =
         let without : Me Note View → Me Note View = λ m. (without_first m.0, m.1) in
-        let stood : next ≡ (stock terms (suc caller) rest, []) = after ∙ ap without stands in
-        let P : PassSeen → Type 0 = λ q. (passes ++ q ∷ []) ++ fresh_from table terms (suc caller) rest ≡ fresh_from table terms 0 callers in
-        let all : (passes ++ p ∷ []) ++ fresh_from table terms (suc caller) rest ≡ fresh_from table terms 0 callers =
-        subst P (sym is) (append_assoc passes (record { table = table; terms = terms; caller = caller; entries = []; last = None; steps = 0 } ∷ []) (fresh_from table terms (suc caller) rest) ∙ dealt) in
-        let Q : ℕ → Type 0 = λ k. Dealt table terms callers k next (passes ++ p ∷ []) in
-        subst Q (sym (add-one caller)) (record { rest = rest; count = omega arith; stands = stood; dealt = all })
+        let stood : next ≡ (stock terms (caller + 1) rest, []) = after ∙ ap without stands in
+        let P : PassSeen → Type 0 = λ q. (passes ++ q ∷ []) ++ fresh_from table terms (caller + 1) rest ≡ fresh_from table terms 0 callers in
+        let all : (passes ++ p ∷ []) ++ fresh_from table terms (caller + 1) rest ≡ fresh_from table terms 0 callers =
+        subst P (sym is) (append_assoc passes (record { table = table; terms = terms; caller = caller; entries = []; last = None; steps = 0 } ∷ []) (fresh_from table terms (caller + 1) rest) ∙ dealt) in
+        record { rest = rest; count = omega arith; stands = stood; dealt = all }

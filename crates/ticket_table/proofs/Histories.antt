@@ -1,10 +1,12 @@
 -- How a ticket history grows, entry by entry, and that each word's numbers in it are 0, 1, 2 and so on.
 use Rattle.std.proofs.Common.{◌≡◌, ◌≢◌, ℕ, zero, suc, ◌+◌, ◌⊎◌, Bool, cond, eqb, List, [], ◌∷◌, ◌++◌, map, refl, sym, ap, subst, ◌∙◌, inl, inr, ⊎_elim, append_assoc, append-nil, eq-eqb, ne_eqb, arith}
+use Rattle.std.specs.List.{range_with_len}
 use Rattle.std.proofs.lemmas.Bool.{cases_eq}
+use Rattle.std.proofs.lemmas.List.{map-append}
 use Rattle.std.proofs.lemmas.List.Elements.{filter-append}
 use Rattle.std.proofs.lemmas.List.Sums.{fold_push, sum_by_push}
 use Rattle.ticket_table.specs.declared.entry.Entry.{Entry}
-use Rattle.ticket_table.specs.History.{Basis, MayFollow, IsHistory, of_word, of_caller, count_at, left_at, count_up, NumbersInOrder}
+use Rattle.ticket_table.specs.History.{Basis, MayFollow, IsHistory, of_word, of_caller, count_at, left_at, NumbersInOrder}
 
 -- ---- one entry more
 
@@ -107,36 +109,32 @@ of_word-other word h e other =
 
 -- ---- the numbers of a word
 
-pub count_up-more : (first count : ℕ) → count_up first (suc count) ≡ count_up first count ++ (first + count) ∷ []
-count_up-more first zero = ap (λ (n : ℕ). n ∷ []) (omega arith)
-count_up-more first (suc count) =
+pub range_more : (first count : ℕ) → range_with_len first (suc count) ≡ range_with_len first count ++ (first + count) ∷ []
+range_more first zero = ap (λ (n : ℕ). n ∷ []) (omega arith)
+range_more first (suc count) =
     ap (λ (ns : List ℕ). first ∷ ns)
-    (count_up-more (suc first) count ∙ ap (λ (n : ℕ). count_up (suc first) count ++ n ∷ []) (omega arith))
-
-map-push : (h : List Entry) (e : Entry) → map (λ x. x.number) (h ++ e ∷ []) ≡ map (λ x. x.number) h ++ e.number ∷ []
-map-push [] e = refl
-map-push (x ∷ h) e = ap (λ (ns : List ℕ). x.number ∷ ns) (map-push h e)
+    (range_more (first + 1) count ∙ ap (λ (n : ℕ). range_with_len (first + 1) count ++ n ∷ []) (omega arith))
 
 pub numbers_in_order : NumbersInOrder
 numbers_in_order basis history all word =
-    by_steps basis (λ h. map (λ e. e.number) (of_word word h) ≡ count_up 0 (count_at word h)) refl step history all
+    by_steps basis (λ h. map (λ e. e.number) (of_word word h) ≡ range_with_len 0 (count_at word h)) refl step history all
   where
     step : (h : List Entry) (e : Entry) → IsHistory basis h → MayFollow basis h e
-        → map (λ x. x.number) (of_word word h) ≡ count_up 0 (count_at word h)
-        → map (λ x. x.number) (of_word word (h ++ e ∷ [])) ≡ count_up 0 (count_at word (h ++ e ∷ []))
+        → map (λ x. x.number) (of_word word h) ≡ range_with_len 0 (count_at word h)
+        → map (λ x. x.number) (of_word word (h ++ e ∷ [])) ≡ range_with_len 0 (count_at word (h ++ e ∷ []))
     step h e earlier next so_far =
         elim (cases_eq e.word word) [
           | inl same ↦
               let grown : count_at word (h ++ e ∷ []) ≡ suc (count_at word h) = omega (arith, count_at-same word h e same) in
               let number : e.number ≡ 0 + count_at word h = next.number ∙ ap (λ (w : ℕ). count_at w h) same ∙ omega arith in
               ap (λ (es : List Entry). map (λ x. x.number) es) (of_word-same word h e same)
-              ∙ map-push (of_word word h) e
+              ∙ map-append (λ (x : Entry). x.number) (of_word word h) (e ∷ [])
               ∙ ap (λ (ns : List ℕ). ns ++ e.number ∷ []) so_far
-              ∙ ap (λ (n : ℕ). count_up 0 (count_at word h) ++ n ∷ []) number
-              ∙ sym (count_up-more 0 (count_at word h))
-              ∙ ap (λ (n : ℕ). count_up 0 n) (sym grown)
+              ∙ ap (λ (n : ℕ). range_with_len 0 (count_at word h) ++ n ∷ []) number
+              ∙ sym (range_more 0 (count_at word h))
+              ∙ ap (λ (n : ℕ). range_with_len 0 n) (sym grown)
           | inr other ↦
               ap (λ (es : List Entry). map (λ x. x.number) es) (of_word-other word h e other)
               ∙ so_far
-              ∙ ap (λ (n : ℕ). count_up 0 n) (sym (count_at-other word h e other))
+              ∙ ap (λ (n : ℕ). range_with_len 0 n) (sym (count_at-other word h e other))
         ]

@@ -1,5 +1,6 @@
 -- A table whose words or one view change: when the rule still holds, and that a load keeps it.
 use Rattle.std.proofs.Common.{◌≡◌, ◌≢◌, ◌⊎◌, ℕ, ◌+◌, ◌<◌, Bool, true, false, List, length, get_or, set, refl, sym, ap, subst, ◌∙◌, inl, inr, arith}
+use Rattle.std.proofs.lemmas.Bool.{false_from_ne_true}
 use Rattle.std.proofs.lemmas.List.{set-get_or}
 use mathlib.Core.Option.{some, none}
 use lib.ListN.{get_elem?}
@@ -16,18 +17,13 @@ use Rattle.ticket_table.specs.Views.{has, looked}
 use Rattle.ticket_table.specs.Rule.{Fits, AreApart, KeptBy, Kept, Below, Looked}
 use Rattle.ticket_table.proofs.SpentCallers.{below_unspent}
 
--- a test that would be true has the other answer
-pub not_true : (b : Bool) → (b ≡ true → b ≡ false) → b ≡ false
-not_true true h = h refl
-not_true false h = refl
-
 -- one view is changed for another with no more callers
 pub apart_set : (views : List View) (id : ℕ) (v w : View) → get_elem? views id ≡ some v → ((c : ℕ) → has w.callers c ≡ true → has v.callers c ≡ true) → AreApart views
     → AreApart (set views id w)
 apart_set views id v w at fewer apart i j a b c ia jb ne ha = first (at_set views id i w a ia)
   where
     fewer_still : has v.callers c ≡ false → has w.callers c ≡ false
-    fewer_still without = not_true (has w.callers c) (λ yes. absurd (let both = fewer c yes in cc))
+    fewer_still without = false_from_ne_true (has w.callers c) (λ yes. let both = fewer c yes in cc)
 
     second : (has v.callers c ≡ true) → i ≡ id → ((j ≡ id) × (w ≡ b)) ⊎ ((j ≢ id) × (get_elem? views j ≡ some b)) → has b.callers c ≡ false
     second hv ii (inl same) = absurd (ne (ii ∙ sym same.0))

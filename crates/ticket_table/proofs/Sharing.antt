@@ -1,5 +1,6 @@
 -- Making a table, splitting a seat and joining two keep the rule.
 use Rattle.std.proofs.Common.{◌≡◌, ◌≢◌, ◌⊎◌, ℕ, zero, suc, ◌+◌, ◌/◌, ◌<◌, ◌≤◌, Bool, true, false, ◌||◌, eqb, List, [], ◌∷◌, ◌++◌, length, get_or, set, refl, sym, ap, subst, ◌∙◌, inl, inr, ⊎_elim, arith, append-nil}
+use Rattle.std.specs.List.{range_with_len}
 use Rattle.std.proofs.lemmas.Bool.{or_cases, or_left, or_right, eqb-true, true≢false, false_from_ne_true, or_from, or_parts, cases_Bool}
 use Rattle.std.proofs.lemmas.List.Folds.{list_any-append}
 use Rattle.std.proofs.lemmas.List.Elements.{filter-append}
@@ -10,7 +11,7 @@ use Rattle.atomic_table.proofs.Lists.{at_set}
 use Rattle.ticket_table.specs.declared.entry.Entry.{Entry}
 use Rattle.ticket_table.specs.declared.entry.View.{View}
 use Rattle.ticket_table.specs.declared.entry.Terms.{Terms}
-use Rattle.ticket_table.specs.History.{Basis, Leaves, count_up, of_caller}
+use Rattle.ticket_table.specs.History.{Basis, Leaves, of_caller}
 use Rattle.ticket_table.specs.Views.{has, stock, opened, nobody, together}
 use Rattle.ticket_table.specs.Rule.{Fits, AreApart, KeptBy, Kept}
 use Rattle.ticket_table.proofs.Histories.{nothing_yet}
@@ -19,11 +20,11 @@ use Rattle.ticket_table.proofs.Keeps.{kept_set, apart_set}
 -- ---- the callers counted up
 
 -- they are at or above the first, and below the end
-pub has_counted : (first count c : ℕ) → has (count_up first count) c ≡ true → (first ≤ c) × (c < first + count)
+pub has_counted : (first count c : ℕ) → has (range_with_len first count) c ≡ true → (first ≤ c) × (c < first + count)
 has_counted first zero c is = absurd (true≢false (sym is))
-has_counted first (suc count) c is = by (or_cases (eqb first c) (has (count_up (suc first) count) c) is) (has_counted (suc first) count c)
+has_counted first (suc count) c is = by (or_cases (eqb first c) (has (range_with_len (first + 1) count) c) is) (has_counted (first + 1) count c)
   where
-    by : (eqb first c ≡ true) ⊎ (has (count_up (suc first) count) c ≡ true) → (has (count_up (suc first) count) c ≡ true → (suc first ≤ c) × (c < suc first + count)) → (first ≤ c) × (c < first + suc count)
+    by : (eqb first c ≡ true) ⊎ (has (range_with_len (first + 1) count) c ≡ true) → (has (range_with_len (first + 1) count) c ≡ true → (first + 1 ≤ c) × (c < first + 1 + count)) → (first ≤ c) × (c < first + suc count)
     by (inl hit) rest = let same : first ≡ c = eqb-true first c hit in (omega arith, omega arith)
     by (inr later) rest = let bounds = rest later in (omega arith, omega arith)
 
@@ -82,7 +83,7 @@ apart_more views w apart new i j a b c ia jb ne is = by (at_end views w a i ia) 
 
 -- fewer callers with no entry yet
 fewer_fits : (basis : Basis) (h : List Entry) (words : List ℕ) (terms : Terms) (first count fewer_first fewer_count : ℕ) → Fits basis h words (stock terms first count)
-    → ((c : ℕ) → has (count_up fewer_first fewer_count) c ≡ true → has (count_up first count) c ≡ true) → Fits basis h words (stock terms fewer_first fewer_count)
+    → ((c : ℕ) → has (range_with_len fewer_first fewer_count) c ≡ true → has (range_with_len first count) c ≡ true) → Fits basis h words (stock terms fewer_first fewer_count)
 fewer_fits basis h words terms first count fewer_first fewer_count fits fewer =
     record {
       same = fits.same;
@@ -92,49 +93,49 @@ fewer_fits basis h words terms first count fewer_first fewer_count fits fewer =
       last = λ word x is. absurd (cc);
     }
 
-pub splits_stock : (basis : Basis) (id : ℕ) (terms : Terms) (first rest : ℕ) → Splits (Kept basis) id (stock terms first (suc rest)) (stock terms (suc first) rest) (stock terms first 1)
+pub splits_stock : (basis : Basis) (id : ℕ) (terms : Terms) (first rest : ℕ) → Splits (Kept basis) id (stock terms first (suc rest)) (stock terms (first + 1) rest) (stock terms first 1)
 splits_stock basis id terms first rest s kept at = (kept.0, record { history = (kept.1).history; leaves = (kept.1).leaves; fits = fits; apart = apart })
   where
-    later : (c : ℕ) → has (count_up (suc first) rest) c ≡ true → has (count_up first (suc rest)) c ≡ true
-    later c is = or_right (eqb first c) (has (count_up (suc first) rest) c) is
+    later : (c : ℕ) → has (range_with_len (first + 1) rest) c ≡ true → has (range_with_len first (suc rest)) c ≡ true
+    later c is = or_right (eqb first c) (has (range_with_len (first + 1) rest) c) is
 
-    alone : (c : ℕ) → has (count_up first 1) c ≡ true → has (count_up first (suc rest)) c ≡ true
+    alone : (c : ℕ) → has (range_with_len first 1) c ≡ true → has (range_with_len first (suc rest)) c ≡ true
     alone c is = by (or_cases (eqb first c) false is)
       where
-        by : (eqb first c ≡ true) ⊎ (false ≡ true) → has (count_up first (suc rest)) c ≡ true
-        by (inl hit) = or_left (eqb first c) (has (count_up (suc first) rest) c) hit
+        by : (eqb first c ≡ true) ⊎ (false ≡ true) → has (range_with_len first (suc rest)) c ≡ true
+        by (inl hit) = or_left (eqb first c) (has (range_with_len (first + 1) rest) c) hit
         by (inr miss) = absurd (true≢false (sym miss))
 
     views : List View
-    views = set s.views id (stock terms (suc first) rest)
+    views = set s.views id (stock terms (first + 1) rest)
 
     whole : Fits basis kept.0 s.words (stock terms first (suc rest))
     whole = (kept.1).fits id (stock terms first (suc rest)) at
 
-    left_kept : KeptBy basis s.words (set s.views id (stock terms (suc first) rest)) kept.0
+    left_kept : KeptBy basis s.words (set s.views id (stock terms (first + 1) rest)) kept.0
     left_kept =
-        kept_set basis s.words s.views kept.0 id (stock terms (suc first) rest) (kept.1).history (kept.1).leaves (λ j u _ e. (kept.1).fits j u e)
-        (fewer_fits basis kept.0 s.words terms first (suc rest) (suc first) rest whole later)
-        (apart_set s.views id (stock terms first (suc rest)) (stock terms (suc first) rest) at later (kept.1).apart)
+        kept_set basis s.words s.views kept.0 id (stock terms (first + 1) rest) (kept.1).history (kept.1).leaves (λ j u _ e. (kept.1).fits j u e)
+        (fewer_fits basis kept.0 s.words terms first (suc rest) (first + 1) rest whole later)
+        (apart_set s.views id (stock terms first (suc rest)) (stock terms (first + 1) rest) at later (kept.1).apart)
 
-    fits : (j : ℕ) (v : View) → get_elem? (set s.views id (stock terms (suc first) rest) ++ stock terms first 1 ∷ []) j ≡ some v → Fits basis kept.0 s.words v
-    fits j v e = by (at_end (set s.views id (stock terms (suc first) rest)) (stock terms first 1) v j e)
+    fits : (j : ℕ) (v : View) → get_elem? (set s.views id (stock terms (first + 1) rest) ++ stock terms first 1 ∷ []) j ≡ some v → Fits basis kept.0 s.words v
+    fits j v e = by (at_end (set s.views id (stock terms (first + 1) rest)) (stock terms first 1) v j e)
       where
-        by : (get_elem? (set s.views id (stock terms (suc first) rest)) j ≡ some v) ⊎ ((j ≡ length (set s.views id (stock terms (suc first) rest))) × (stock terms first 1 ≡ v))
+        by : (get_elem? (set s.views id (stock terms (first + 1) rest)) j ≡ some v) ⊎ ((j ≡ length (set s.views id (stock terms (first + 1) rest))) × (stock terms first 1 ≡ v))
             → Fits basis kept.0 s.words v
         by (inl old) = left_kept.fits j v old
         by (inr new) = subst (λ (u : View). Fits basis kept.0 s.words u) new.1 (fewer_fits basis kept.0 s.words terms first (suc rest) first 1 whole alone)
 
-    apart : AreApart (set s.views id (stock terms (suc first) rest) ++ stock terms first 1 ∷ [])
-    apart = apart_more (set s.views id (stock terms (suc first) rest)) (stock terms first 1) left_kept.apart disjoint
+    apart : AreApart (set s.views id (stock terms (first + 1) rest) ++ stock terms first 1 ∷ [])
+    apart = apart_more (set s.views id (stock terms (first + 1) rest)) (stock terms first 1) left_kept.apart disjoint
       where
-        disjoint : (j : ℕ) (u : View) (c : ℕ) → get_elem? (set s.views id (stock terms (suc first) rest)) j ≡ some u → has u.callers c ≡ true → has (count_up first 1) c ≡ true → ⊥
-        disjoint j u c e theirs ours = by (at_set s.views id j (stock terms (suc first) rest) u e)
+        disjoint : (j : ℕ) (u : View) (c : ℕ) → get_elem? (set s.views id (stock terms (first + 1) rest)) j ≡ some u → has u.callers c ≡ true → has (range_with_len first 1) c ≡ true → ⊥
+        disjoint j u c e theirs ours = by (at_set s.views id j (stock terms (first + 1) rest) u e)
           where
-            by : ((j ≡ id) × (stock terms (suc first) rest ≡ u)) ⊎ ((j ≢ id) × (get_elem? s.views j ≡ some u)) → ⊥
+            by : ((j ≡ id) × (stock terms (first + 1) rest ≡ u)) ⊎ ((j ≢ id) × (get_elem? s.views j ≡ some u)) → ⊥
             by (inl same) =
                 let one = has_counted first 1 c ours in
-                let others = has_counted (suc first) rest c (subst (λ (w : View). has w.callers c ≡ true) (sym same.1) theirs) in
+                let others = has_counted (first + 1) rest c (subst (λ (w : View). has w.callers c ≡ true) (sym same.1) theirs) in
                 omega arith
             by (inr other) =
                 let without = (kept.1).apart id j (stock terms first (suc rest)) u c at other.1 (λ e. other.0 (sym e)) (alone c ours) in

@@ -1,7 +1,7 @@
 -- A ticket history: all changes of a table's words in one order, in which each word's changes are numbered 0, 1, 2 and so on,
 -- each finds what the one before left, and no caller goes on after a spent number (tickets as in Reed and Kanodia, 1979).
-use Rattle.std.specs.Prelude.{◌≡◌, ℕ, zero, suc, ◌+◌, ◌<◌, ◌==◌, nat_lt, nat_le, if◌then◌else◌, Bool, false, List, [], ◌∷◌, ◌++◌, length, map, filter, count_by, fold, slice_index}
-use Rattle.std.specs.List.{list_any}
+use Rattle.std.specs.Prelude.{◌≡◌, ℕ, ◌+◌, ◌<◌, ◌==◌, nat_lt, nat_le, if◌then◌else◌, Bool, false, List, [], ◌∷◌, ◌++◌, length, map, filter, count_by, fold, slice_index}
+use Rattle.std.specs.List.{list_any, range_with_len}
 use Rattle.rv_execute.specs.declared.op.Op.{Op}
 use Rattle.rv_execute.specs.Payloads.{changed}
 use Rattle.ticket_table.specs.declared.entry.Role.{Role}
@@ -14,11 +14,6 @@ use Rattle.ticket_table.specs.Words.{number_of, payload_of}
 pub record Basis : Type 0 where
   pub terms : Terms
   pub first : List ℕ
-
--- `count` numbers from `first` on
-abbrev pub count_up : ℕ → ℕ → List ℕ
-count_up first zero = []
-count_up first (suc count) = first ∷ count_up (suc first) count
 
 -- the entries of one word, and those of one caller, in their order
 abbrev pub of_word : ℕ → List Entry → List Entry
@@ -71,4 +66,4 @@ pub record Leaves (basis : Basis) (history : List Entry) (words : List ℕ) : Ty
 abbrev pub NumbersInOrder : Type 0
 NumbersInOrder =
     (basis : Basis) (history : List Entry) → IsHistory basis history
-    → (word : ℕ) → map (λ e. e.number) (of_word word history) ≡ count_up 0 (count_at word history)
+    → (word : ℕ) → map (λ e. e.number) (of_word word history) ≡ range_with_len 0 (count_at word history)

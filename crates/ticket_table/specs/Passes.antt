@@ -1,5 +1,6 @@
 -- What callers see of a table, of their passes and of what a call did to them (this project's own form).
-use Rattle.std.specs.Prelude.{◌≡◌, ℕ, ◌+◌, ◌<◌, ◌≤◌, Bool, List, [], ◌∷◌, ◌++◌, zero, suc, length, slice_get, Some, None, Option}
+use Rattle.std.specs.Prelude.{◌≡◌, ℕ, ◌+◌, ◌<◌, ◌≤◌, Bool, List, [], ◌∷◌, ◌++◌, length, slice_get, map, Some, None, Option}
+use Rattle.std.specs.List.{range_with_len}
 use Rattle.atomic_table.specs.Seated.{TableId}
 use Rattle.rv_execute.specs.declared.op.Op.{Op}
 use Rattle.ticket_table.specs.declared.entry.Terms.{Terms}
@@ -58,11 +59,13 @@ abbrev pub IfNotYet : Served → (ℕ → Type 0) → Type 0
 IfNotYet (Done old) P = Unit {0}
 IfNotYet (NotYet seen) P = P seen
 
--- the passes of `count` callers from `caller` on, which have done nothing yet
+-- the pass of a caller that has done nothing yet
+abbrev pub fresh : TableId → Terms → ℕ → PassSeen
+fresh table terms caller = record { table = table; terms = terms; caller = caller; entries = []; last = None; steps = 0 }
+
+-- those of `count` callers from `first` on
 abbrev pub fresh_from : TableId → Terms → ℕ → ℕ → List PassSeen
-fresh_from table terms caller zero = []
-fresh_from table terms caller (suc count) =
-    record { table = table; terms = terms; caller = caller; entries = []; last = None; steps = 0 } ∷ fresh_from table terms (suc caller) count
+fresh_from table terms first count = map (fresh table terms) (range_with_len first count)
 
 -- one pass for each caller
 abbrev pub AreFresh : TableSeen → List PassSeen → Type 0

@@ -1,13 +1,13 @@
 -- What a seat of the table knows: its view, and how a step, a split and a join change it (this project's own form).
 use Rattle.std.specs.Prelude.{◌≡◌, ℕ, ◌+◌, ◌==◌, Bool, true, false, List, [], ◌∷◌, ◌++◌, Some, None}
-use Rattle.std.specs.List.{list_any}
+use Rattle.std.specs.List.{list_any, range_with_len}
 use Rattle.rv_execute.specs.declared.op.Op.{Op}
 use Rattle.ticket_table.specs.declared.entry.Role.TheVariants.{Draw}
 use Rattle.ticket_table.specs.declared.entry.Terms.{Terms}
 use Rattle.ticket_table.specs.declared.entry.Entry.{Entry}
 use Rattle.ticket_table.specs.declared.entry.View.{View}
 use Rattle.ticket_table.specs.Words.{word_of}
-use Rattle.ticket_table.specs.History.{Basis, count_up, of_caller, left_by}
+use Rattle.ticket_table.specs.History.{Basis, of_caller, left_by}
 
 -- whether a caller is among these
 abbrev pub has : List ℕ → ℕ → Bool
@@ -21,7 +21,7 @@ pub record IsAlone (v : View) (caller : ℕ) : Type 0 where
 
 -- `count` callers from `first` on, with no entry yet
 abbrev pub stock : Terms → ℕ → ℕ → View
-stock terms first count = record { live = true; terms = terms; callers = count_up first count; mine = []; last = None; steps = 0 }
+stock terms first count = record { live = true; terms = terms; callers = range_with_len first count; mine = []; last = None; steps = 0 }
 
 -- the first view of a table, which stands for all callers
 abbrev pub opened : Basis → View
