@@ -6,6 +6,7 @@ use std::test::Fail;
 
 mod faults;
 mod guests;
+mod memory;
 mod refusals;
 
 /// The headers of a small image, up to the two sizes of its segment.

@@ -1,0 +1,92 @@
+//! Want of memory: with each allocation failing in turn (`rt try --test --fail-alloc N`), a command answers as it does with
+//! ample memory, or is refused for want of it.
+use super::*;
+
+/// A command, and what it answers with ample memory.
+#[derive(Clone, Copy)]
+struct Answer<'a> {
+    words: &'a [&'a str],
+    image: &'a [u8],
+    status: u8,
+    out: &'a [u8],
+    report: &'a [u8],
+}
+
+/// A run, and a refusal of each kind.
+fn answers<'a>(hi: &'a [u8], later: &'a [u8]) -> [Answer<'a>; 5] {
+    [
+        Answer {
+            words: &RUN,
+            image: hi,
+            status: 0,
+            out: HI_OUTPUT,
+            report: HI_REPORT,
+        },
+        Answer {
+            words: &["run"],
+            image: hi,
+            status: 64,
+            out: b"",
+            report: b"refused 64 words\n",
+        },
+        Answer {
+            words: &RUN,
+            image: b"",
+            status: 65,
+            out: b"",
+            report: b"refused 65 image 1 Short\n",
+        },
+        Answer {
+            words: &RUN,
+            image: later,
+            status: 70,
+            out: b"",
+            report: b"refused 70 later\n",
+        },
+        Answer {
+            words: &["run", "--image", "none"],
+            image: hi,
+            status: 74,
+            out: b"",
+            report: b"refused 74 read image\n",
+        },
+    ]
+}
+
+/// The image of `hi`, and one of a form that is not built yet.
+fn images(alloc: Global) -> Result<(Vec<u8>, Vec<u8>), AllocError> {
+    let hi = image(alloc, &HI)?;
+    let mut later = image(alloc, &HI)?;
+    later.push(0)?;
+    Ok((hi, later))
+}
+
+/// The status of a command, and what it left.
+fn answered(alloc: Global, answer: &Answer<'_>) -> Result<(u8, Surroundings), AllocError> {
+    let mut around = Surroundings::ample(alloc, answer.image)?;
+    let status = around.command(alloc, answer.words)?;
+    Ok((status, around))
+}
+
+#[test]
+fn want_of_memory_is_the_only_other_answer(rt: HostRuntime) -> Result<(), Fail> {
+    let alloc = rt.alloc();
+    // Where the test itself finds no memory, it shows nothing.
+    let Ok((hi, later)) = images(alloc) else {
+        return Ok(());
+    };
+    for answer in answers(&hi, &later) {
+        let Ok((status, around)) = answered(alloc, &answer) else {
+            return Ok(());
+        };
+        let (own, out, report) = if status == 71 {
+            (71, b"".as_slice(), b"refused 71 memory\n".as_slice())
+        } else {
+            (answer.status, answer.out, answer.report)
+        };
+        assert_eq!(rt; status, own);
+        assert_eq!(rt; around.out.bytes(), out);
+        assert_eq!(rt; around.report.bytes(), report);
+    }
+    Ok(())
+}
