@@ -18,6 +18,9 @@ pub record FilesSeen : Type 0 where
   pub held : List ℕ → Option (List ℕ)
   pub faults : List ℕ → ℕ
 
+abbrev pub files_seen : (List ℕ → Option (List ℕ)) → (List ℕ → ℕ) → FilesSeen
+files_seen held faults = record { held = held; faults = faults }
+
 -- the words name an image, and these are its bytes
 pub record IsImage (words : List (List ℕ)) (old : FilesSeen) (bytes : List ℕ) : Type 0 where
   pub name : List ℕ
@@ -111,6 +114,10 @@ pub record Refused (ending : Ending) (out_old out_new report_old report_new : Si
 pub record SinksSeen : Type 0 where
   pub out : SinkSeen
   pub report : SinkSeen
+
+abbrev pub sinks_seen : Option (List ℕ) → ℕ → Option (List ℕ) → ℕ → SinksSeen
+sinks_seen out out_faults report report_faults =
+    record { out = record { written = out; faults = out_faults }; report = record { written = report; faults = report_faults } }
 
 abbrev pub WroteLine : Ending → SinksSeen → SinksSeen → Type 0
 WroteLine ending old new = Refused ending old.out new.out old.report new.report

@@ -2,7 +2,7 @@
 ghost use Rattle.std.specs.Prelude.{◌≡◌, ℕ};
 ghost use Rattle.outside.specs.Sinks.{Told};
 ghost use Rattle.run_cli.specs.Runs.{turns};
-ghost use Rattle.run_cli.specs.Endings.{Delivered, line_of};
+ghost use Rattle.run_cli.specs.Endings.{sinks_seen, Delivered, line_of};
 ghost use Rattle.run_cli.specs.Preparing.{HasRunTo, DeliversRun};
 
 use crate::ending::Ending;
@@ -15,8 +15,8 @@ use trap_report::write_report;
 pub(crate) fn deliver<O: Sink, R: Sink>(run: &Run, out: &mut O, report: &mut R) -> Ending
     requires { HasRunTo run.now.setup run.now.finished }
     ensures { DeliversRun run.now.setup run.now.finished
-        (record { out = record { written = O.written out.old; faults = O.faults out.old }; report = record { written = R.written report.old; faults = R.faults report.old } })
-        (record { out = record { written = O.written out.new; faults = O.faults out.new }; report = record { written = R.written report.new; faults = R.faults report.new } })
+        (sinks_seen (O.written out.old) (O.faults out.old) (R.written report.old) (R.faults report.old))
+        (sinks_seen (O.written out.new) (O.faults out.new) (R.written report.new) (R.faults report.new))
         result }
 {
     let Ok(()) = write_whole(out, run.finished.output().as_slice()) else {

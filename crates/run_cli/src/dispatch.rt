@@ -1,7 +1,7 @@
 //! What the program does with the words of its command line.
 ghost use Rattle.std.specs.Prelude.{◌≡◌, map, string_bytes};
 ghost use Rattle.run_cli.specs.declared.ending.Ending.{Ending as EndingSeen};
-ghost use Rattle.run_cli.specs.Endings.{Ended, status_of};
+ghost use Rattle.run_cli.specs.Endings.{files_seen, sinks_seen, Ended, status_of};
 ghost use Rattle.run_cli.specs.Completeness.{Completes};
 
 use crate::deliver::{deliver, refuse};
@@ -34,10 +34,10 @@ fn conclude<F: Files, O: Sink, R: Sink>(
     report: &mut R,
 ) -> Ending
     ensures { Ended (map string_bytes words.now)
-        (record { held = F.held files.old; faults = F.faults files.old })
-        (record { held = F.held files.new; faults = F.faults files.new })
-        (record { out = record { written = O.written out.old; faults = O.faults out.old }; report = record { written = R.written report.old; faults = R.faults report.old } })
-        (record { out = record { written = O.written out.new; faults = O.faults out.new }; report = record { written = R.written report.new; faults = R.faults report.new } })
+        (files_seen (F.held files.old) (F.faults files.old))
+        (files_seen (F.held files.new) (F.faults files.new))
+        (sinks_seen (O.written out.old) (O.faults out.old) (R.written report.old) (R.faults report.old))
+        (sinks_seen (O.written out.new) (O.faults out.new) (R.written report.new) (R.faults report.new))
         result }
 {
     match prepare(alloc, words, files) {
@@ -63,16 +63,16 @@ pub fn command<F: Files, O: Sink, R: Sink>(
     report: &mut R,
 ) -> u8
     ensures ended { (ending : EndingSeen) × (result ≡ status_of ending) × Ended (map string_bytes words.now)
-        (record { held = F.held files.old; faults = F.faults files.old })
-        (record { held = F.held files.new; faults = F.faults files.new })
-        (record { out = record { written = O.written out.old; faults = O.faults out.old }; report = record { written = R.written report.old; faults = R.faults report.old } })
-        (record { out = record { written = O.written out.new; faults = O.faults out.new }; report = record { written = R.written report.new; faults = R.faults report.new } })
+        (files_seen (F.held files.old) (F.faults files.old))
+        (files_seen (F.held files.new) (F.faults files.new))
+        (sinks_seen (O.written out.old) (O.faults out.old) (R.written report.old) (R.faults report.old))
+        (sinks_seen (O.written out.new) (O.faults out.new) (R.written report.new) (R.faults report.new))
         ending }
     ensures completes { Completes (map string_bytes words.now)
-        (record { held = F.held files.old; faults = F.faults files.old })
-        (record { held = F.held files.new; faults = F.faults files.new })
-        (record { out = record { written = O.written out.old; faults = O.faults out.old }; report = record { written = R.written report.old; faults = R.faults report.old } })
-        (record { out = record { written = O.written out.new; faults = O.faults out.new }; report = record { written = R.written report.new; faults = R.faults report.new } })
+        (files_seen (F.held files.old) (F.faults files.old))
+        (files_seen (F.held files.new) (F.faults files.new))
+        (sinks_seen (O.written out.old) (O.faults out.old) (R.written report.old) (R.faults report.old))
+        (sinks_seen (O.written out.new) (O.faults out.new) (R.written report.new) (R.faults report.new))
         result }
 {
     status(conclude(alloc, words, files, out, report))

@@ -2,7 +2,7 @@
 ghost use Rattle.std.specs.Prelude.{◌≡◌, ℕ, List, [], map, string_bytes, IfOk, IfErr};
 ghost use Rattle.run_cli.specs.SmallImage.{IsSmallImage};
 ghost use Rattle.run_cli.specs.Runs.{setup_of};
-ghost use Rattle.run_cli.specs.Endings.{IsImage, IsCalm, Caused};
+ghost use Rattle.run_cli.specs.Endings.{files_seen, IsImage, IsCalm, Caused};
 ghost use Rattle.run_cli.specs.Preparing.{RefusesImage, RefusesRun, HasRunTo, IsPrepared};
 
 use crate::ending::Ending;
@@ -33,10 +33,10 @@ pub struct Run {
 
 /// The bytes of the image that the words name.
 fn read_image<F: Files>(alloc: Global, words: &[String], files: &mut F) -> Result<Vec<u8>, Ending>
-    ensures read { IfOk result (λ bytes. IsImage (map string_bytes words.now) (record { held = F.held files.old; faults = F.faults files.old }) bytes.items
-        × IsCalm (record { held = F.held files.old; faults = F.faults files.old }) (record { held = F.held files.new; faults = F.faults files.new })) }
-    ensures refused { IfErr result (Caused (map string_bytes words.now) (record { held = F.held files.old; faults = F.faults files.old })
-        (record { held = F.held files.new; faults = F.faults files.new })) }
+    ensures read { IfOk result (λ bytes. IsImage (map string_bytes words.now) (files_seen (F.held files.old) (F.faults files.old)) bytes.items
+        × IsCalm (files_seen (F.held files.old) (F.faults files.old)) (files_seen (F.held files.new) (F.faults files.new))) }
+    ensures refused { IfErr result (Caused (map string_bytes words.now) (files_seen (F.held files.old) (F.faults files.old))
+        (files_seen (F.held files.new) (F.faults files.new))) }
 {
     let Some(name) = image_name(words) else {
         return Err(Ending::Words);
@@ -104,10 +104,10 @@ pub(crate) fn prepare<F: Files>(
     words: &[String],
     files: &mut F,
 ) -> Result<Run, Ending>
-    ensures ran { IfOk result (λ run. IsPrepared (map string_bytes words.now) (record { held = F.held files.old; faults = F.faults files.old })
-        (record { held = F.held files.new; faults = F.faults files.new }) run.setup run.finished) }
-    ensures refused { IfErr result (Caused (map string_bytes words.now) (record { held = F.held files.old; faults = F.faults files.old })
-        (record { held = F.held files.new; faults = F.faults files.new })) }
+    ensures ran { IfOk result (λ run. IsPrepared (map string_bytes words.now) (files_seen (F.held files.old) (F.faults files.old))
+        (files_seen (F.held files.new) (F.faults files.new)) run.setup run.finished) }
+    ensures refused { IfErr result (Caused (map string_bytes words.now) (files_seen (F.held files.old) (F.faults files.old))
+        (files_seen (F.held files.new) (F.faults files.new))) }
 {
     let bytes = read_image(alloc, words, files)?;
     let image = load_small(alloc, bytes.as_slice())?;
