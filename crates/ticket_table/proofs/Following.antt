@@ -1,17 +1,11 @@
 -- Of a history, each entry of one caller at a word has a number below the word's count, and the last one left what the word holds.
-use Rattle.std.proofs.Common.{◌≡◌, ◌≢◌, ◌⊎◌, ℕ, zero, suc, ◌+◌, ◌<◌, List, [], ◌∷◌, ◌++◌, slice_get, slice_index, Some, sym, ap, subst, ◌∙◌, inl, inr, arith}
+use Rattle.std.proofs.Common.{◌≡◌, ◌≢◌, ◌⊎◌, ℕ, ◌+◌, ◌<◌, List, [], ◌∷◌, ◌++◌, length, slice_get, slice_index, Some, sym, ap, subst, ◌∙◌, inl, inr, arith}
 use Rattle.std.proofs.lemmas.Bool.{cases_eq}
 use Rattle.ticket_table.specs.declared.entry.Entry.{Entry}
 use Rattle.ticket_table.specs.History.{Basis, MayFollow, IsHistory, of_caller, count_at, left_at}
 use Rattle.ticket_table.specs.Rule.{Follows}
 use Rattle.ticket_table.proofs.Histories.{by_steps, count_at-same, count_at-other, left_at-same, left_at-other, of_caller-same, of_caller-other}
-
--- what stands in a list with one item more at its end
-get_push : (xs : List Entry) (e a : Entry) (place : ℕ) → slice_get (xs ++ e ∷ []) place ≡ Some a → (slice_get xs place ≡ Some a) ⊎ (e ≡ a)
-get_push [] e a zero same = inr (cc)
-get_push [] e a (suc place) same = absurd (cc)
-get_push (x ∷ xs) e a zero same = inl same
-get_push (x ∷ xs) e a (suc place) same = get_push xs e a place same
+use Rattle.ticket_table.proofs.Places.{get_at_end}
 
 -- an entry at this word is before the word's next change, which finds what the entry left if it is the very next
 abbrev Precedes : Basis → ℕ → List Entry → Entry → Type 0
@@ -43,12 +37,12 @@ module _ (basis : Basis) (caller word : ℕ) where
   one_more : (h : List Entry) (e : Entry) → IsHistory basis h → MayFollow basis h e → AllPrecede basis caller word h → AllPrecede basis caller word (h ++ e ∷ [])
   one_more h e all may before place a found here = by_caller (cases_eq e.caller caller)
     where
-      by_place : (slice_get (of_caller caller h) place ≡ Some a) ⊎ (e ≡ a) → Precedes basis word (h ++ e ∷ []) a
+      by_place : (slice_get (of_caller caller h) place ≡ Some a) ⊎ ((place ≡ length (of_caller caller h)) × (e ≡ a)) → Precedes basis word (h ++ e ∷ []) a
       by_place (inl old) = older h e a (before place a old here)
-      by_place (inr new) = newest h e a may new here
+      by_place (inr new) = newest h e a may new.1 here
 
       by_caller : (e.caller ≡ caller) ⊎ (e.caller ≢ caller) → Precedes basis word (h ++ e ∷ []) a
-      by_caller (inl same) = by_place (get_push (of_caller caller h) e a place (ap (λ (xs : List Entry). slice_get xs place) (sym (of_caller-same caller h e same)) ∙ found))
+      by_caller (inl same) = by_place (get_at_end (of_caller caller h) e a place (ap (λ (xs : List Entry). slice_get xs place) (sym (of_caller-same caller h e same)) ∙ found))
       by_caller (inr other) = older h e a (before place a (ap (λ (xs : List Entry). slice_get xs place) (sym (of_caller-other caller h e other)) ∙ found) here)
 
   all_precede : (h : List Entry) → IsHistory basis h → AllPrecede basis caller word h

@@ -1,6 +1,7 @@
 -- What the seat knows into which passes are joined, from the last one to the first.
-use Rattle.std.proofs.Common.{◌≡◌, ◌≢◌, ◌⊎◌, ℕ, zero, suc, ◌≤◌, Bool, true, false, cond, eqb, List, [], ◌∷◌, ◌++◌, length, slice_get, Some, refl, sym, ap, subst, ◌∙◌, inl, inr, arith, append_assoc, append-nil, ne_eqb, length-append}
+use Rattle.std.proofs.Common.{◌≡◌, ◌≢◌, ◌⊎◌, ℕ, suc, ◌≤◌, Bool, true, false, cond, eqb, List, [], ◌∷◌, ◌++◌, length, slice_get, Some, refl, sym, ap, subst, ◌∙◌, inl, inr, arith, append_assoc, append-nil, ne_eqb, length-append}
 use Rattle.std.proofs.lemmas.Bool.{cases_eq, or_left, or_right, eqb-true}
+use Rattle.std.proofs.lemmas.Option.{slice_get_within}
 use Rattle.atomic_table.specs.Table.{State, Final, Seen}
 use Rattle.atomic_table.specs.Seated.{TableId}
 use Rattle.ticket_table.specs.declared.entry.Entry.{Entry}
@@ -12,6 +13,7 @@ use Rattle.ticket_table.specs.Rule.{Kept}
 use Rattle.ticket_table.specs.Passes.{PassSeen, ArePasses, Closes}
 use Rattle.ticket_table.specs.Gathered.{HasFrom}
 use Rattle.ticket_table.proofs.Asking.{has_alone}
+use Rattle.ticket_table.proofs.Places.{get_at_end}
 use Rattle.ticket_table.proofs.Sharing.{has_both, of_both}
 
 -- ---- places
@@ -20,11 +22,12 @@ get_here : (items tail : List PassSeen) (p : PassSeen) → slice_get (items ++ p
 get_here [] tail p = refl
 get_here (x ∷ items) tail p = get_here items tail p
 
-get_end : (items : List PassSeen) (p q : PassSeen) (place : ℕ) → length items ≤ place → slice_get (items ++ p ∷ []) place ≡ Some q → p ≡ q
-get_end [] p q zero le is = cc
-get_end [] p q (suc place) le is = absurd (cc)
-get_end (x ∷ items) p q zero le is = absurd (omega arith)
-get_end (x ∷ items) p q (suc place) le is = get_end items p q place (omega arith) is
+last_one : (items : List PassSeen) (p q : PassSeen) (place : ℕ) → length items ≤ place → slice_get (items ++ p ∷ []) place ≡ Some q → p ≡ q
+last_one items p q place le is = by (get_at_end items p q place is)
+  where
+    by : (slice_get items place ≡ Some q) ⊎ ((place ≡ length items) × (p ≡ q)) → p ≡ q
+    by (inl before) = let within = slice_get_within items place q before in absurd (omega arith)
+    by (inr here) = here.1
 
 -- the entries of one caller are not another's
 none_of : (caller other : ℕ) (entries : List Entry) → caller ≢ other → of_caller other (of_caller caller entries) ≡ []
@@ -46,10 +49,10 @@ pub starts : (ps items : List PassSeen) (p : PassSeen) (v : View) → ps ≡ ite
 starts ps items p v whole alone mine =
     let P : List PassSeen → Type 0 = λ qs. HasFrom (length items) qs v in
     subst P (sym whole) (record {
-      callers = λ place q le is. ap (λ (r : PassSeen). has v.callers r.caller) (sym (get_end items p q place le is)) ∙ has_alone v p.caller alone;
+      callers = λ place q le is. ap (λ (r : PassSeen). has v.callers r.caller) (sym (last_one items p q place le is)) ∙ has_alone v p.caller alone;
       lists = λ place q le is.
           let Q : PassSeen → Type 0 = λ r. of_caller r.caller v.mine ≡ r.entries in
-          subst Q (get_end items p q place le is) (alone.own ∙ mine);
+          subst Q (last_one items p q place le is) (alone.own ∙ mine);
       only = λ caller none_is. alone_only v p.caller caller alone (none_is (length items) p (omega arith) (get_here items [] p));
     })
 

@@ -16,6 +16,7 @@ use Rattle.ticket_table.specs.Views.{has, stock, opened, nobody, together}
 use Rattle.ticket_table.specs.Rule.{Fits, AreApart, KeptBy, Kept}
 use Rattle.ticket_table.proofs.Histories.{nothing_yet}
 use Rattle.ticket_table.proofs.Keeps.{kept_set, apart_set}
+use Rattle.ticket_table.proofs.Places.{at_end}
 
 -- ---- the callers counted up
 
@@ -62,13 +63,6 @@ module _ (basis : Basis) (small : (word : ℕ) → word < length basis.first →
       apart (suc i) j v w c a b ne is = absurd (some-ne-none v (sym a))
 
 -- ---- split
-
--- what stands in a list with one item more at its end
-at_end : (l : List View) (a b : View) (j : ℕ) → get_elem? (l ++ a ∷ []) j ≡ some b → (get_elem? l j ≡ some b) ⊎ ((j ≡ length l) × (a ≡ b))
-at_end [] a b zero e = inr (refl, some-injective a b e)
-at_end [] a b (suc j) e = absurd (some-ne-none b (sym e))
-at_end (x ∷ xs) a b zero e = inl e
-at_end (x ∷ xs) a b (suc j) e = ⊎_elim (λ t. inl t) (λ t. inr (ap suc t.0, t.1)) (at_end xs a b j e)
 
 -- one view more, which shares no caller with the others
 apart_more : (views : List View) (w : View) → AreApart views → ((j : ℕ) (u : View) (c : ℕ) → get_elem? views j ≡ some u → has u.callers c ≡ true → has w.callers c ≡ true → ⊥)

@@ -1,6 +1,6 @@
 -- A ticket history: all changes of a table's words in one order, in which each word's changes are numbered 0, 1, 2 and so on,
 -- each finds what the one before left, and no caller goes on after a spent number (tickets as in Reed and Kanodia, 1979).
-use Rattle.std.specs.Prelude.{◌≡◌, ℕ, ◌+◌, ◌<◌, ◌==◌, nat_lt, nat_le, if◌then◌else◌, Bool, false, List, [], ◌∷◌, ◌++◌, length, map, filter, count_by, fold, slice_index}
+use Rattle.std.specs.Prelude.{◌≡◌, ℕ, ◌+◌, ◌<◌, ◌==◌, nat_lt, nat_le, if◌then◌else◌, Bool, false, List, ◌∷◌, ◌++◌, length, map, filter, count_by, fold, slice_index}
 use Rattle.std.specs.List.{list_any, range_with_len}
 use Rattle.rv_execute.specs.declared.op.Op.{Op}
 use Rattle.rv_execute.specs.Payloads.{changed}
