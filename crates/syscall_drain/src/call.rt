@@ -20,9 +20,9 @@ const NO_CALL: u32 = 0u32.wrapping_sub(38);
 
 const READ: u32 = 63;
 
-const WRITE: u32 = 64;
+pub const WRITE: u32 = 64;
 
-const EXIT: u32 = 93;
+pub const EXIT: u32 = 93;
 
 const EXIT_GROUP: u32 = 94;
 

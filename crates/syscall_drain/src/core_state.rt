@@ -8,7 +8,7 @@ ghost use Rattle.syscall_drain.specs.Sound.{IsReady, HasGathered};
 ghost use Rattle.syscall_drain.specs.SoundProps.{IsReady-prop, HasGathered-prop};
 
 use crate::ask::{Answer, CoreAsk, Made};
-use crate::call::call_number;
+use crate::call::{EXIT, WRITE, call_number};
 use crate::end::End;
 use crate::gathered::Gathered;
 use crate::guest::Guest;
@@ -111,7 +111,7 @@ impl CoreState {
         match task {
             Task::Decide => {
                 let number = call_number(&self.local.hart);
-                number == 64 || number == 93
+                number == WRITE || number == EXIT
             }
             _ => true,
         }
