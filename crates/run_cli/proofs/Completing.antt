@@ -23,7 +23,7 @@ same_bytes words old bytes other count can image =
 class_is : (words : List (List ℕ)) (old new : FilesSeen) (bytes other : List ℕ) (count units class : ℕ) → CanRun words old bytes count → HasRun words old new other units → class ≡ status_class (setup_of other) (along (setup_of other) (turns units)) → class ≡ class_after bytes count
 class_is words old new bytes other count units class can run is =
     let same : other ≡ bytes = same_bytes words old bytes other count can run.image in
-    let ends : IsComplete (setup_of bytes) (turns units) = rw same at run.ends in
+    let ends : IsComplete (setup_of bytes) (turns units) = rw same at run.ends.complete in
     let units_are : units ≡ count = complete_once (setup_of bytes) (omega arith) units count ends can.run.complete in
     is ∙ ap (λ (file : List ℕ). class_after file units) same ∙ ap (class_after bytes) units_are
 

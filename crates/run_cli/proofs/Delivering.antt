@@ -16,7 +16,7 @@ unfolding status_class
 delivers s finished old new class ran whole kept report is within = record {
   count = ran.count;
   order_is = ran.order_is;
-  complete = rw ran.order_is at ran.run.complete;
+  run = record { complete = rw ran.order_is at ran.run.complete; built = ran.built };
   delivered = (
     rw (← ran.order_is) (is ∙ ap (λ (f : Seen). class_of f.cores) ran.run.run),
     within,

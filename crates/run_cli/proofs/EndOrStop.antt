@@ -1,16 +1,14 @@
 -- The run of an image by itself comes to its end, or to a unit that is not built.
-use Rattle.std.proofs.Common.{◌≡◌, ℕ, zero, suc, ◌+◌, ◌<◌, ◌⊎◌, inl, inr, Some, None, true, false, List, [], ◌∷◌, ◌++◌, length, refl, ap, arith, subst}
-use Rattle.std.proofs.lemmas.Bool.{cases_lt}
+use Rattle.std.proofs.Common.{◌≡◌, ℕ, zero, suc, ◌+◌, ◌⊎◌, inl, inr, Some, None, true, false, List, [], ◌∷◌, ◌++◌, length, refl, ap, arith, subst}
 use Rattle.syscall_drain.specs.declared.end.End.{End}
 use Rattle.syscall_drain.specs.Built.{is_built}
 use Rattle.machine.specs.States.{opening}
 use Rattle.machine.specs.Runs.{along, IsPlayable, IsPlayableFrom}
 use Rattle.machine.proofs.Extended.{playable_more}
-use Rattle.run_cli.specs.Runs.{setup_of, turns, Stops}
-use Rattle.run_cli.specs.Completeness.{IsBuiltRun}
+use Rattle.run_cli.specs.Runs.{setup_of, turns, AreBuilt, IsBuiltRun, Stops}
 use Rattle.run_cli.specs.RunLaws.{RunsEndOrStop, RunsEndOnce}
 use Rattle.run_cli.proofs.Plain.{turns_short}
-use Rattle.run_cli.proofs.Turns.{complete_once}
+use Rattle.run_cli.proofs.Turns.{complete_once, one_more_built}
 
 -- what comes of a run
 abbrev EndsOrStops : List ℕ → Type 0
@@ -27,16 +25,12 @@ turns_count (suc count) = ap suc (turns_count count)
 -- so many units were spent, and all of them are built
 record HasSpent (bytes : List ℕ) (count : ℕ) : Type 0 where
   playable : IsPlayable (setup_of bytes) (turns count)
-  built : (unit : ℕ) → unit < count → is_built (setup_of bytes).program ((along (setup_of bytes) (turns unit)).cores 0).local ≡ true
+  built : AreBuilt (setup_of bytes) count
 
 spend : (bytes : List ℕ) (count : ℕ) → HasSpent bytes count → ((along (setup_of bytes) (turns count)).cores 0).local.ending ≡ None → is_built (setup_of bytes).program ((along (setup_of bytes) (turns count)).cores 0).local ≡ true → HasSpent bytes (suc count)
 spend bytes count spent running here = record {
   playable = subst (IsPlayable (setup_of bytes)) (one_turn_more count) (playable_more (setup_of bytes) (opening (setup_of bytes)) (turns count) 0 spent.playable (omega arith) running);
-  built = λ unit below.
-      elim (cases_lt unit count) [
-        | inl lt ↦ spent.built unit lt
-        | inr ge ↦ let same : count ≡ unit = omega arith in subst (λ (n : ℕ). is_built (setup_of bytes).program ((along (setup_of bytes) (turns n)).cores 0).local ≡ true) same here
-      ];
+  built = one_more_built (setup_of bytes) count spent.built here;
 }
 
 ended : (bytes : List ℕ) (count : ℕ) (end : End) → HasSpent bytes count → ((along (setup_of bytes) (turns count)).cores 0).local.ending ≡ Some end → IsBuiltRun (setup_of bytes) count

@@ -1,10 +1,12 @@
 -- Runs of core 0 alone from one state: each that comes to the core's end has as many units, and a unit that is not built comes before the end.
-use Rattle.std.proofs.Common.{◌≡◌, ℕ, zero, suc, ◌<◌, Option, None, IsSome, true, false, is_some, refl, sym, ◌∙◌, ap, arith}
+use Rattle.std.proofs.Common.{◌≡◌, ℕ, zero, suc, ◌<◌, inl, inr, Option, None, IsSome, true, false, is_some, refl, sym, ◌∙◌, ap, subst, arith}
+use Rattle.std.proofs.lemmas.Bool.{cases_lt}
+use Rattle.syscall_drain.specs.Built.{is_built}
 use Rattle.machine.specs.Setups.{Setup, cores_of}
 use Rattle.machine.specs.States.{State, opening}
 use Rattle.machine.specs.Steps.{step}
-use Rattle.machine.specs.Runs.{run, IsPlayableFrom, IsComplete}
-use Rattle.run_cli.specs.Runs.{turns, Stops}
+use Rattle.machine.specs.Runs.{run, along, IsPlayableFrom, IsComplete}
+use Rattle.run_cli.specs.Runs.{turns, AreBuilt, Stops}
 
 -- after so many units core 0 has ended, or goes on
 abbrev Ends : Setup → State → ℕ → Type 0
@@ -39,3 +41,11 @@ complete_once s some m n one other = end_once s (opening s) m n (complete_ends s
 
 pub stops_before_end : (s : Setup) → 0 < cores_of s → (unit count : ℕ) → Stops s unit → IsComplete s (turns count) → unit < count
 stops_before_end s some unit count stops complete = before_end s (opening s) unit count (stops.playable, stops.running) (complete_ends s some count complete)
+
+-- a unit more that is built
+pub one_more_built : (s : Setup) (count : ℕ) → AreBuilt s count → is_built s.program ((along s (turns count)).cores 0).local ≡ true → AreBuilt s (suc count)
+one_more_built s count built here unit below =
+    elim (cases_lt unit count) [
+      | inl lt ↦ built unit lt
+      | inr ge ↦ let same : count ≡ unit = omega arith in subst (λ (n : ℕ). is_built s.program ((along s (turns n)).cores 0).local ≡ true) same here
+    ]

@@ -1,19 +1,12 @@
 -- When a command answers the class of a run or want of memory, and nothing else.
-use Rattle.std.specs.Prelude.{◌≡◌, ℕ, ◌<◌, ◌⊎◌, true, List, Some}
+use Rattle.std.specs.Prelude.{◌≡◌, ℕ, ◌⊎◌, List, Some}
 use Rattle.outside.specs.Faults.{Rose}
-use Rattle.syscall_drain.specs.Built.{is_built}
-use Rattle.machine.specs.Setups.{Setup}
-use Rattle.machine.specs.Runs.{along, IsComplete}
+use Rattle.machine.specs.Runs.{along}
 use Rattle.machine.specs.Outcomes.{status_class}
 use Rattle.run_cli.specs.Words.{RunsImage}
 use Rattle.run_cli.specs.SmallImage.{IsSmallImage}
-use Rattle.run_cli.specs.Runs.{setup_of, turns}
+use Rattle.run_cli.specs.Runs.{setup_of, turns, IsBuiltRun}
 use Rattle.run_cli.specs.Endings.{FilesSeen, SinksSeen}
-
--- core 0 comes to its end in so many units, and each of them is built
-pub record IsBuiltRun (s : Setup) (count : ℕ) : Type 0 where
-  pub complete : IsComplete s (turns count)
-  pub built : (unit : ℕ) → unit < count → is_built s.program ((along s (turns unit)).cores 0).local ≡ true
 
 -- the words name an image, it is told that these are its bytes, and they are a small image whose run has so many units
 pub record CanRun (words : List (List ℕ)) (old : FilesSeen) (bytes : List ℕ) (count : ℕ) : Type 0 where

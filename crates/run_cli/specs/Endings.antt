@@ -4,12 +4,12 @@ use Rattle.outside.specs.Faults.{Rose}
 use Rattle.outside.specs.Files.{IsTold}
 use Rattle.outside.specs.Sinks.{SinkSeen, Untouched, Wrote, Cut, Told}
 use Rattle.machine.specs.Setups.{Setup}
-use Rattle.machine.specs.Runs.{along, IsComplete}
+use Rattle.machine.specs.Runs.{along}
 use Rattle.machine.specs.Outcomes.{output, status_class}
 use Rattle.trap_report.specs.Text.{text}
 use Rattle.run_cli.specs.Words.{RunsImage}
 use Rattle.run_cli.specs.SmallImage.{IsSmallImage}
-use Rattle.run_cli.specs.Runs.{setup_of, turns, Stops}
+use Rattle.run_cli.specs.Runs.{setup_of, turns, IsBuiltRun, Stops}
 use Rattle.run_cli.specs.declared.ending.Ending.{Ending}
 use Rattle.run_cli.specs.declared.ending.Ending.TheVariants.{Class, Words, Image, Later, Memory, Read, Write}
 
@@ -87,11 +87,11 @@ Caused words old new Write = ⊥
 
 -- ---- when a run comes to its end
 
--- the image's core ran to its end in so many units
+-- the image's core ran to its end in so many units, all of them built
 pub record HasRun (words : List (List ℕ)) (old new : FilesSeen) (bytes : List ℕ) (count : ℕ) : Type 0 where
   pub image : IsImage words old bytes
   pub small : IsSmallImage bytes
-  pub ends : IsComplete (setup_of bytes) (turns count)
+  pub ends : IsBuiltRun (setup_of bytes) count
   pub calm : IsCalm old new
 
 -- ---- what was written

@@ -1,10 +1,9 @@
 -- What each part of preparing a run gives.
 use Rattle.std.specs.Prelude.{◌≡◌, ℕ, ◌<◌, ◌≤◌, List, length}
 use Rattle.machine.specs.Setups.{Setup}
-use Rattle.machine.specs.Runs.{IsComplete}
 use Rattle.inline_tracker.specs.Finished.{Seen, IsFinishedRun}
 use Rattle.run_cli.specs.SmallImage.{IsSmallImage}
-use Rattle.run_cli.specs.Runs.{setup_of, turns, Stops}
+use Rattle.run_cli.specs.Runs.{setup_of, turns, AreBuilt, IsBuiltRun, Stops}
 use Rattle.run_cli.specs.Endings.{FilesSeen, SinksSeen, IsImage, IsCalm, Delivered}
 use Rattle.run_cli.specs.declared.ending.Ending.{Ending}
 use Rattle.run_cli.specs.declared.ending.Ending.TheVariants.{Class, Words, Image, Later, Memory, Read, Write}
@@ -23,11 +22,12 @@ RefusesImage bytes Memory = Unit {0}
 RefusesImage bytes Read = ⊥
 RefusesImage bytes Write = ⊥
 
--- a run of core 0 alone to its end
+-- a run of core 0 alone to its end, each of its units built
 pub record HasRunTo (s : Setup) (finished : Seen) : Type 0 where
   pub run : IsFinishedRun s finished
   pub count : ℕ
   pub order_is : finished.order ≡ turns count
+  pub built : AreBuilt s count
 
 -- why a run is refused
 pub record StopsSomewhere (s : Setup) : Type 0 where
@@ -56,5 +56,5 @@ pub record IsPrepared (words : List (List ℕ)) (old new : FilesSeen) (s : Setup
 pub record DeliversRun (s : Setup) (finished : Seen) (old new : SinksSeen) (ending : Ending) : Type 0 where
   pub count : ℕ
   pub order_is : finished.order ≡ turns count
-  pub complete : IsComplete s (turns count)
+  pub run : IsBuiltRun s count
   pub delivered : Delivered s count old new ending

@@ -5,7 +5,7 @@ mod deliver;
 mod dispatch;
 mod ending;
 mod image;
-mod laws;
+pub mod laws;
 mod prepare;
 #[cfg(test)]
 mod tests;
