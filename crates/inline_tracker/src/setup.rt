@@ -27,6 +27,8 @@ impl Model for Setup {
 impl Setup {
     ghost use Rattle.machine.specs.Setups.{AreLimits};
 
+    /// A run of the guest in which each core may spend `budget` units, 1 to 1,048,576, and each word has accesses of
+    /// numbers below `limit`, 1 to 4,294,967,280.
     pub fn new(guest: Guest, budget: u32, limit: u32) -> Setup
         requires { AreLimits budget limit }
         ensures { result ≡ record { program = guest; policy = []; budget = budget; limit = limit } }
@@ -38,6 +40,7 @@ impl Setup {
         }
     }
 
+    /// The program and its input.
     pub fn guest(&self) -> &Guest
         ensures guest { result.now ≡ self.now.program }
         ensures unruled { self.now.policy ≡ [] }
@@ -45,6 +48,7 @@ impl Setup {
         &self.guest
     }
 
+    /// The most units of each core.
     pub fn budget(&self) -> u32
         ensures budget { result ≡ self.now.budget }
         ensures within { (1 ≤ result) × (result ≤ 1048576) }
@@ -53,6 +57,7 @@ impl Setup {
         self.budget
     }
 
+    /// The first access number of a word that is spent.
     pub fn limit(&self) -> u32
         ensures limit { result ≡ self.now.limit }
         ensures within { (1 ≤ result) × (result ≤ 4294967280) }

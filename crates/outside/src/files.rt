@@ -1,4 +1,4 @@
-// Reading whole files by name.
+//! Reading whole files by name.
 ghost use Rattle.std.specs.Prelude.{◌≡◌, ℕ, ◌≤◌, List, Option, IfOk, length};
 ghost use Rattle.outside.specs.Files.{ReadsHeld, HasFileCause};
 
@@ -14,6 +14,7 @@ pub enum FileFault {
     /// The file has more bytes than were asked for.
     #[error("the file is too long")]
     TooLong,
+    /// There was not enough memory for the file.
     #[error("out of memory")]
     NoMemory,
 }

@@ -1,4 +1,4 @@
-// Files and sinks of the host, over std. They tell no contents.
+//! Files and sinks of the host, over std. They tell no contents.
 ghost use Rattle.std.specs.Prelude.{◌≡◌, ◌<◌, ◌≤◌, IfOk, IsOk, length, take};
 ghost use Rattle.std.specs.Io.KnownBytes.{Appends, WriteAppends};
 ghost use Rattle.outside.specs.Faults.{HasCause};
@@ -28,6 +28,7 @@ impl<'a, R: rt::Files> Model for HostFiles<'a, R> {
 }
 
 impl<'a, R: rt::Files> HostFiles<'a, R> {
+    /// The files that the runtime reaches, by their paths.
     pub fn new(rt: &'a R) -> HostFiles<'a, R>
         ensures { result ≡ 0 }
     {
@@ -111,6 +112,7 @@ impl<W: Write> Model for HostSink<W> {
 }
 
 impl<W: Write> HostSink<W> {
+    /// A sink over a writer, which is flushed after each write.
     pub fn new(writer: W) -> HostSink<W>
         ensures { result ≡ record { writer = writer; faults = 0 } }
     {

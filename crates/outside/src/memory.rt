@@ -1,4 +1,4 @@
-// Files and sinks in memory.
+//! Files and sinks in memory.
 ghost use Rattle.std.specs.Prelude.{◌≡◌, ◌≢◌, ℕ, ◌<◌, ◌≤◌, ◌↔◌, ◌⊎◌, List, [], ◌∷◌, ◌++◌, length, min, Contains, IfSome, IsNone, option_copied, unwrap_or, IfOk, IsOk, OnOk, IsErr, OnErr};
 ghost use Rattle.std.specs.Str.{bytes_eq};
 ghost use Rattle.std.specs.Io.KnownBytes.{WriteAppends};

@@ -1,4 +1,4 @@
-// Writing bytes out.
+//! Writing bytes out.
 ghost use Rattle.std.specs.Prelude.{◌≡◌, ℕ, List, Option, IfOk, IsOk, OnOk, OnErr, length, take};
 ghost use Rattle.std.specs.Io.KnownBytes.{Appends, WriteAppends};
 ghost use Rattle.outside.specs.Faults.{HasCause};
@@ -9,6 +9,7 @@ use thiserror::Error;
 /// Why a piece could not be written.
 #[derive(Clone, Copy, Debug, PartialEq, Eq, Error)]
 pub enum SinkFault {
+    /// The bytes could not be written.
     #[error("the write failed")]
     Failed,
 }

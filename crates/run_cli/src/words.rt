@@ -2,7 +2,7 @@
 ghost use Rattle.std.specs.Prelude.{◌≡◌, ℕ, List, MatchOption, map, string_bytes, IsTrue};
 ghost use Rattle.run_cli.specs.Words.{RunsImage, is_good};
 
-/// Whether a value is one: it is not empty and does not begin with `-`.
+/// Whether a word can be an option's value: it is not empty and does not begin with `-`.
 fn is_good(value: &str) -> bool
     ensures { result ≡ is_good value.now }
 {

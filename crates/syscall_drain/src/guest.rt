@@ -22,6 +22,7 @@ impl Model for Guest {
 }
 
 impl Guest {
+    /// A program with its input, at most 16,777,216 bytes.
     pub fn new(image: Image, input: Vec<u8>) -> Guest
         requires { length input.items ≤ 16777216 }
         ensures { result ≡ record { layout = image; input = input.items } }
@@ -29,12 +30,14 @@ impl Guest {
         Guest { image, input }
     }
 
+    /// The program's memory map.
     pub fn image(&self) -> &Image
         ensures { result.now ≡ self.now.layout }
     {
         &self.image
     }
 
+    /// The bytes that its read calls give.
     pub fn input(&self) -> &[u8]
         ensures bytes { result.now ≡ self.now.input }
         ensures within { length result.now ≤ 16777216 }
