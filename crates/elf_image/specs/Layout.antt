@@ -1,4 +1,5 @@
--- The memory map of an accepted image: its mapped pages as a set, the number of each word, permissions, first words and first registers (RISC-V psABI, "Integer Register Convention", for the use of x2, x10 and x11).
+-- The memory map of an accepted image: its mapped pages as a set, the number of each word, permissions, first words and first registers
+-- (this project's own; the zero bytes behind a segment's bytes in the file as in the System V gABI, "Program Header"; the use of x2, x10 and x11 as in the RISC-V psABI, "Integer Register Convention").
 use Rattle.std.specs.Prelude.{ℕ, zero, suc, ◌+◌, ◌*◌, ◌-◌, ◌/◌, ◌%◌, max, List, [], ◌∷◌, slice_get, slice_index, slice_set, replicate, fold, find, Option, Some, None, Bool, true, false, ◌&&◌, ◌||◌, ◌==◌, nat_lt, nat_le, if◌then◌else◌}
 use Rattle.std.specs.List.{range_with_len, list_any}
 use Rattle.std.specs.Option.{option_map}

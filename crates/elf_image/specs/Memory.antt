@@ -1,4 +1,4 @@
--- What a loaded image keeps of its layout: the table of pages, the first words, and what is read off the file once.
+-- What a loaded image keeps of its layout: the table of pages, the first words, and what is read off the file once. Their meaning is in Layout.
 use Rattle.std.specs.Prelude.{◌≡◌, ℕ, ◌%◌, ◌*◌, ◌<◌, ◌≤◌, List, length, slice_index_or, Option, Some, None, false, if◌then◌else◌}
 use Rattle.std.specs.List.{list_any}
 use Rattle.elf_image.specs.Elf.{segments}

@@ -1,4 +1,4 @@
--- What the table of pages holds: the mapped pages in ascending order, and what may be done on each.
+-- What the loader's table of pages holds: the mapped pages in ascending order, and what may be done on each. Their meaning is in Layout.
 use Rattle.std.specs.Prelude.{◌≡◌, ℕ, ◌<◌, ◌≤◌, false, List, length, slice_index, slice_index_or, ◌+◌, ◌*◌, ◌/◌, ◌%◌, Bool, true, ◌&&◌}
 use Rattle.elf_image.specs.Elf.{may_write}
 use Rattle.elf_image.specs.Layout.{touches, maps, writes, executes, count_below, all_pages}

@@ -6,6 +6,8 @@ use Rattle.record_lane.specs.declared.record.MeetKind.TheVariants.{Call, Verdict
 use Rattle.record_lane.specs.declared.record.Record.TheVariants.{Touch}
 use Rattle.record_lane.specs.declared.record.Why.TheVariants.{Fill}
 use Rattle.rv_execute.specs.declared.fault.Fault.TheVariants.{Illegal, Break}
+use Rattle.rv_execute.specs.declared.op.Op.{Op}
+use Rattle.rv_execute.specs.declared.op.Op.TheVariants.{Write}
 use Rattle.record_lane.specs.declared.reply.Trap.{Trap}
 use Rattle.record_lane.specs.declared.note.CallNote.{CallNote}
 use Rattle.syscall_drain.specs.declared.end.End.{End}
@@ -14,6 +16,7 @@ use Rattle.order_core.specs.declared.entry.Entry.{Entry}
 use Rattle.tag_policy.specs.Rules.{Rules, no_rules, Or}
 use Rattle.elf_image.specs.Elf.{program_headers, segments}
 use Rattle.elf_image.specs.Layout.{is_mapped, is_writable_page, is_executable_page, count_below, nth_from, word_of, is_writable, word_at, address_of, first_word, fetched, entry_of}
+use Rattle.syscall_drain.specs.Buffers.{fill}
 use Rattle.syscall_drain.specs.Tasks.{opening_local, task_of}
 use Rattle.syscall_drain.specs.Local.{next_ask, answered, unit_record, placed}
 use Rattle.rv_execute.specs.Instructions.{asked, resumed}
@@ -70,7 +73,7 @@ Ending = Option End × ℕ × Option Trap
 abbrev endings : Setup → List ℕ → List Ending
 endings s order = map (λ core. (core.ending, core.units, core.trap)) (summaries s (along s order))
 
--- the last note of core 0
+-- the last note of the last core that has one
 abbrev last_note : Setup → List ℕ → Option CallNote
 last_note s order = last_or None (flat_map (λ core. core.notes) (summaries s (along s order)))
 
@@ -108,6 +111,17 @@ pass = setup pass_words (97 ∷ 98 ∷ 99 ∷ 100 ∷ []) check_sink 1 1048576 4
 abbrev odd : Setup
 odd = usual odd_words (65 ∷ 66 ∷ 67 ∷ 68 ∷ 69 ∷ [])
 
+-- the store of word `index` of a read call that puts its five bytes into the odd buffer
+abbrev odd_fill : ℕ → Op
+odd_fill index = fill 0x11002 5 index (65 ∷ 66 ∷ 67 ∷ 68 ∷ 69 ∷ []) 0
+
+abbrev reserve : Setup
+reserve = usual lrsc_words []
+
+-- brk of 0, and an exit with the page of the answer
+abbrev break : Setup
+break = usual (0x00000513 ∷ 0x0d600893 ∷ 0x00000073 ∷ 0x00c55513 ∷ 0x05d00893 ∷ 0x00000073 ∷ []) []
+
 -- a store before the store-conditional, and after it
 abbrev store_between : List ℕ
 store_between = 0 ∷ 0 ∷ 0 ∷ 1 ∷ 1 ∷ 1 ∷ 0 ∷ 0 ∷ 0 ∷ 0 ∷ 0 ∷ 1 ∷ 1 ∷ 1 ∷ []
@@ -135,6 +149,8 @@ record Worked : Type 0 where
   bad_buffer_gives_bad_address : endings (usual (slice_set (slice_set hi_words 1 0x000005b7) 6 0x00000013) []) (zeros 10) ≡ exits 242 10 ∷ []
   unknown_call_gives_no_call : endings (usual (slice_set (slice_set hi_words 4 0x03900893) 6 0x00000013) []) (zeros 10) ≡ exits 218 10 ∷ []
   store_conditional_fails_after_a_store : endings lrsc store_between ≡ exits 1 8 ∷ exits 0 6 ∷ []
+  reservation_alone : endings reserve (zeros 8) ≡ exits 0 8 ∷ []
+  reservation_log : log_along reserve (zeros 8) 0 ≡ no_access ∷ no_access ∷ access 1027 0 0 ∷ access 1027 1 0 ∷ times 4 no_access
   store_conditional_numbers : log_along lrsc store_between 0 ≡ no_access ∷ no_access ∷ access 1027 0 0 ∷ access 1027 2 0 ∷ times 4 no_access
   store_numbers : log_along lrsc store_between 1 ≡ no_access ∷ no_access ∷ access 1027 1 0 ∷ times 3 no_access
   store_conditional_stores_alone : endings lrsc store_after ≡ exits 0 8 ∷ exits 0 6 ∷ []
@@ -151,9 +167,12 @@ record Worked : Type 0 where
   trap_comes_before_budget : class_along (jump 10) (zeros 10) ≡ 2
   tainted_bytes_stop_at_the_verdict : endings pass (zeros 13) ≡ (Some Trapped, 13, Some (trap 12 0x1001c 7 1)) ∷ []
   verdict_note : last_note pass (zeros 13) ≡ Some (record (note 12 0x1001c 64) { kind = Verdict; buffer = 1; stop = true })
-  verdict_log : drop 11 (log_along pass (zeros 13) 0) ≡ access 1027 1 0x64636261 ∷ no_access ∷ []
+  verdict_log : log_along pass (zeros 13) 0 ≡
+      times 5 no_access ++ access 0 0 0 ∷ access 1027 0 0 ∷ times 4 no_access ++ access 1027 1 0x64636261 ∷ no_access ∷ []
+  verdict_class : class_along pass (zeros 13) ≡ 2
   verdict_output : output_along pass (zeros 13) ≡ []
   odd_buffer_comes_back : output_along odd (zeros 21) ≡ 65 ∷ 66 ∷ 67 ∷ 68 ∷ 69 ∷ []
+  odd_buffer_stores : (odd_fill 0 ≡ Write 0xffff0000 0x42410000) × (odd_fill 1 ≡ Write 0x00ffffff 0x00454443)
   odd_buffer_ends : endings odd (zeros 21) ≡ exits 0 21 ∷ []
   odd_buffer_log : drop 6 (log_along odd (zeros 21) 0) ≡
       access 0 0 0 ∷ access 1027 0 0 ∷ access 1028 0 0 ∷ times 4 no_access ++ access 1027 1 0x42410000 ∷ access 1028 1 0x00454443 ∷ no_access ∷ access 1 0 0 ∷ times 4 no_access
@@ -161,11 +180,13 @@ record Worked : Type 0 where
   count_ends : endings (usual count_words []) (zeros 3006) ≡ exits 0 3006 ∷ []
   spent_accesses_end_both : endings (setup count_words [] standard 2 1048576 1) turns ≡ (Some Spent, 7, None) ∷ (Some Spent, 4, None) ∷ []
   spent_numbers : slice_get (log_along (setup count_words [] standard 2 1048576 1) turns 0) 6 ≡ Some (access 1027 2 1)
+  spent_number_of_the_other : slice_get (log_along (setup count_words [] standard 2 1048576 1) turns 1) 3 ≡ Some (access 1027 1 1)
   spent_class : class_along (setup count_words [] standard 2 1048576 1) turns ≡ 5
   no_instruction_faults : endings (usual (0 ∷ []) []) (zeros 1) ≡ (Some (Fault Illegal), 1, None) ∷ []
   breakpoint_faults : endings (usual (0x00100073 ∷ []) []) (zeros 1) ≡ (Some (Fault Break), 1, None) ∷ []
   fault_class : class_along (usual (0 ∷ []) []) (zeros 1) ≡ 3
-  break_is_told : endings (usual (0x00000513 ∷ 0x0d600893 ∷ 0x00000073 ∷ 0x00c55513 ∷ 0x05d00893 ∷ 0x00000073 ∷ []) []) (zeros 8) ≡ exits 17 8 ∷ []
+  break_is_told : endings break (zeros 8) ≡ exits 17 8 ∷ []
+  break_log : slice_get (log_along break (zeros 8) 0) 3 ≡ Some (access 2 0 0x00011000)
 
 worked : Worked
 unfolding program_headers segments is_mapped is_writable_page is_executable_page count_below nth_from word_of is_writable word_at address_of first_word fetched entry_of run step touched quiet took left core_given next_ask answered unit_record placed task_of opening_local asked resumed tags_after word_tag reply_of entries_from output status_class
@@ -177,6 +198,8 @@ worked = record {
   bad_buffer_gives_bad_address = refl;
   unknown_call_gives_no_call = refl;
   store_conditional_fails_after_a_store = refl;
+  reservation_alone = refl;
+  reservation_log = refl;
   store_conditional_numbers = refl;
   store_numbers = refl;
   store_conditional_stores_alone = refl;
@@ -194,17 +217,21 @@ worked = record {
   tainted_bytes_stop_at_the_verdict = refl;
   verdict_note = refl;
   verdict_log = refl;
+  verdict_class = refl;
   verdict_output = refl;
   odd_buffer_comes_back = refl;
+  odd_buffer_stores = (refl, refl);
   odd_buffer_ends = refl;
   odd_buffer_log = refl;
   part_of_a_word_joins_its_tag = (refl, refl);
   count_ends = refl;
   spent_accesses_end_both = refl;
   spent_numbers = refl;
+  spent_number_of_the_other = refl;
   spent_class = refl;
   no_instruction_faults = refl;
   breakpoint_faults = refl;
   fault_class = refl;
   break_is_told = refl;
+  break_log = refl;
 }

@@ -1,4 +1,4 @@
--- The outcome of a state: each core's end, units, first trap and notes, the guest's output, and the class of all these.
+-- The outcome of a state: each core's end, units, first trap and notes, the guest's output, and the class of all these (this project's own).
 use Rattle.std.specs.Prelude.{ℕ, ◌+◌, ◌-◌, Bool, true, false, ◌&&◌, nat_le, nat_lt, Option, Some, is_some, List, [], ◌∷◌, ◌++◌, map, length, slice_index, if◌then◌else◌}
 use Rattle.std.specs.List.{list_any, range_with_len}
 use Rattle.record_lane.specs.declared.reply.Trap.{Trap}

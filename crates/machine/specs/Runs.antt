@@ -1,4 +1,4 @@
--- Runs: the state along a list of core numbers, the lists that are complete orders, and the log of each core.
+-- Runs: the state along a list of core numbers, the lists that are complete orders, and the log of each core (this project's own).
 use Rattle.std.specs.Prelude.{◌≡◌, ℕ, ◌<◌, Option, Some, None, IsSome, List, [], ◌∷◌}
 use Rattle.order_core.specs.declared.entry.Access.{Access}
 use Rattle.order_core.specs.declared.entry.Entry.{Entry}

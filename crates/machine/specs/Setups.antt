@@ -1,4 +1,4 @@
--- What a run is a run of: a program with its input and its count of cores, a policy, the budget of units of each core, and the limit of accesses of each word.
+-- What a run is a run of: a program with its input and its count of cores, a policy, the budget of units of each core, and the limit of accesses of each word (this project's own).
 use Rattle.std.specs.Prelude.{ℕ, ◌≤◌, List}
 use Rattle.syscall_drain.specs.Programs.{Program}
 use Rattle.tag_policy.specs.Rules.{Rules}

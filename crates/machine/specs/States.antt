@@ -1,4 +1,5 @@
--- The state of the machine: each core with its tags and its notes, and each word with its count of accesses and its tag. Nothing is queued and nothing is late.
+-- The state of the machine: each core with its tags and its notes, and each word with its count of accesses, its payload, its tag and the output claimed on it.
+-- Nothing is queued and nothing is late (this project's own).
 use Rattle.std.specs.Prelude.{ℕ, List, []}
 use Rattle.elf_image.specs.Layout.{first_word}
 use Rattle.record_lane.specs.declared.note.CallNote.{CallNote}

@@ -1,4 +1,5 @@
--- The step: one unit of one core, which reads and writes that core and at most one word, data and tags together.
+-- The step: one unit of one core, which reads and writes that core and at most one word, data and tags together
+-- (this project's own; memory is sequentially consistent, which RVWMO of the RISC-V Unprivileged ISA permits).
 use Rattle.std.specs.Prelude.{ℕ, ◌+◌, Option, Some, None, List, [], ◌∷◌, ◌++◌, nat_le, if◌then◌else◌}
 use Rattle.rv_execute.specs.declared.op.Op.{Op}
 use Rattle.rv_execute.specs.declared.op.Op.TheVariants.{Read}

@@ -1,4 +1,5 @@
--- When marked entries are a legal merge of logs: each core's part is its log, and each word's numbers count up from 0.
+-- When marked entries are a legal merge of logs: each core's part is its log, and each word's numbers count up from 0
+-- (after Kannan, MICRO 2009: tag accesses follow the order of the data accesses).
 use Rattle.std.specs.Prelude.{◌≡◌, ℕ, List, [], ◌∷◌, suc}
 use Rattle.order_core.specs.declared.entry.Entry.{Entry}
 use Rattle.order_core.specs.Logs.{log_of}

@@ -27,7 +27,7 @@ pub enum MeetKind {
 /// What one unit of a hart was. `step` is the number of the unit in its hart, `pc` the address of its instruction.
 #[derive(Clone, Copy, Debug, PartialEq, Eq)]
 pub enum Record {
-    /// An instruction without an access, or, `faulted`, one that ended in a fault that its operands caused.
+    /// An instruction without an access, or, `faulted`, one that ended in a fault of its target, its address or its page.
     Quiet {
         step: u32,
         pc: u32,

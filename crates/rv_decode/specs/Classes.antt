@@ -1,4 +1,4 @@
--- The class of each operation, by which its result depends on its operands: names of this project for the groups of RISC-V Unprivileged ISA, chapter "RV32I Base Integer Instruction Set", section "Integer Computational Instructions", and chapter "M" extension.
+-- The class of each operation, by which its result depends on its operands: names of this project for the groups of RISC-V Unprivileged ISA, chapter "RV32I Base Integer Instruction Set", section "Integer Computational Instructions", and chapter "M Extension for Integer Multiplication and Division".
 use Rattle.rv_decode.specs.declared.insn.ImmKind.{ImmKind}
 use Rattle.rv_decode.specs.declared.insn.ImmKind.TheVariants.{Addi, Slti, Sltiu, Xori, Ori, Andi, Slli, Srli, Srai}
 use Rattle.rv_decode.specs.declared.insn.RegKind.{RegKind}

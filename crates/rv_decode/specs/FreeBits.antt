@@ -1,4 +1,4 @@
--- What is written where the rows leave bits free: RISC-V Unprivileged ISA, chapter "RV32I Base Integer Instruction Set", section "Memory Ordering Instructions" (FENCE with all predecessors and successors), and chapter "A" extension (aq and rl).
+-- What is written where the rows leave bits free: RISC-V Unprivileged ISA, chapter "RV32I Base Integer Instruction Set", section "Memory Ordering Instructions" (FENCE with all predecessors and successors), and chapter "A Extension for Atomic Instructions" (aq and rl).
 use Rattle.std.specs.Prelude.{◌≡◌, ℕ}
 use Rattle.rv_decode.specs.declared.insn.Insn.{Insn}
 use Rattle.rv_decode.specs.declared.insn.Insn.TheVariants.{Fence, Lr, Sc, Amo}

@@ -13,7 +13,7 @@ use Rattle.rv_decode.specs.declared.insn.RegKind.TheVariants.{Add, Sub, Sll, Slt
 use Rattle.rv_decode.specs.declared.insn.AmoKind.{AmoKind}
 use Rattle.rv_decode.specs.declared.insn.AmoKind.TheVariants.{Add as AmoAdd, Swap as AmoSwap, Xor as AmoXor, Or as AmoOr, And as AmoAnd, Min as AmoMin, Max as AmoMax, Minu as AmoMinu, Maxu as AmoMaxu}
 
--- ---- opcodes, by the manual's names
+-- ---- opcodes, by the manual's names; its OP-IMM and OP are `op_imm` and `op_reg`
 
 abbrev pub op_lui : ℕ
 op_lui = 0b0110111

@@ -1,4 +1,4 @@
--- The numbers of the faults: this project's own, in the order in which an instruction can meet them.
+-- The numbers that stand for the faults (this project's own). The order of their tests stands in syscall_drain/specs/Tasks.antt.
 use Rattle.std.specs.Prelude.{ℕ}
 use Rattle.rv_execute.specs.declared.fault.Fault.{Fault}
 use Rattle.rv_execute.specs.declared.fault.Fault.TheVariants.{Illegal, FetchMisaligned, FetchOutside, LoadMisaligned, LoadOutside, StoreMisaligned, StoreOutside, StoreReadOnly, Break}

@@ -1,5 +1,6 @@
 -- What an instruction asks of memory, and what it leaves in its hart
--- (RISC-V Unprivileged ISA, RV32I 2.1, M 2.0 and A 2.1; that each misaligned access is a fault, and that a reservation is a number, are this project's own).
+-- (RISC-V Unprivileged ISA, RV32I 2.1, M 2.0 and A 2.1: "Control Transfer Instructions", "Load and Store Instructions",
+-- "Environment Call and Breakpoints", "Load-Reserved/Store-Conditional Instructions", "Atomic Memory Operations"; that each misaligned access is a fault, and that a reservation is a number, are this project's own).
 use Rattle.std.specs.Prelude.{ℕ, ◌+◌, ◌-◌, ◌%◌, ℤ, Bool, Option, Some, None, List, if◌then◌else◌, ◌==◌}
 use Rattle.rv_decode.specs.declared.insn.Insn.{Insn}
 use Rattle.rv_decode.specs.declared.insn.Insn.TheVariants.{Lui, Auipc, Jal, Jalr, Branch, Load, Store, Imm, Reg, Fence, Ecall, Ebreak, Lr, Sc, Amo}

@@ -1,5 +1,5 @@
 -- The results of the integer instructions
--- (RISC-V Unprivileged ISA, "Integer Computational Instructions", and "M Extension for Integer Multiplication and Division").
+-- (RISC-V Unprivileged ISA, "Integer Computational Instructions", "Control Transfer Instructions", and "M Extension for Integer Multiplication and Division").
 use Rattle.std.specs.Prelude.{ℕ, ◌*◌, ◌/◌, ◌%◌, ◌^◌, pos, ◌*ℤ◌, if◌then◌else◌, ◌==◌, nat_lt, not, Bool, bit_and, bit_or, bit_xor, int_div, int_rem}
 use Rattle.std.specs.Int.{int_shr}
 use Rattle.rv_decode.specs.declared.insn.RegKind.{RegKind}

@@ -11,7 +11,7 @@ wrapped n = n % 4294967296
 abbrev pub signed : ℕ → ℤ
 signed x = cast_signed w32 x
 
--- the word whose signed reading is z, as of a sign-extended immediate
+-- z modulo 2^32, as of a sign-extended immediate, for z from -2^31 up and below 2^32
 abbrev pub pattern : ℤ → ℕ
 pattern z = cast_unsigned w32 z
 

@@ -1,4 +1,4 @@
--- What a core but for its number and its budget is to a contract.
+-- What a core but for its number and its budget is to a contract (this project's own).
 use Rattle.rv_execute.specs.Harts.{state_of}
 use Rattle.syscall_drain.specs.Tasks.{Local}
 use Rattle.syscall_drain.specs.declared.local_core.LocalCore.{LocalCore}

@@ -1,4 +1,4 @@
--- The tags of a core after a list of records, each with the tag found at its word.
+-- The tags of a core after a list of records, each with the tag found at its word (this project's own).
 use Rattle.std.specs.Prelude.{ℕ, List, [], ◌∷◌}
 use Rattle.record_lane.specs.declared.record.Record.{Record}
 use Rattle.tag_policy.specs.Rules.{Rules}

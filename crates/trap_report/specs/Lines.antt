@@ -1,4 +1,4 @@
--- Lines of a text: fields with one space between two of them, ended by a line feed; and hexadecimal of a stated count of digits.
+-- Lines of a text: fields with one space between two of them, ended by a line feed; and hexadecimal of a stated count of digits (this project's own).
 use Rattle.std.specs.Prelude.{ℕ, zero, suc, ◌+◌, ◌-◌, ◌/◌, ◌%◌, List, [], ◌∷◌, ◌++◌, nat_lt, if◌then◌else◌}
 
 -- what follows the first field: each field after a space, and the line feed

@@ -1,4 +1,4 @@
--- A report's text cut into pieces, and the pieces that are left from a place in it on. A piece is one line, or nothing
+-- What the writer keeps: a report's text cut into pieces, and the pieces that are left from a place in it on. A piece is one line, or nothing
 -- where a core has no trap or no further note.
 use Rattle.std.specs.Prelude.{◌≡◌, ℕ, suc, ◌<◌, Option, Some, None, List, [], ◌∷◌, ◌++◌, map, drop, length, slice_get, slice_index, sum_by, count_by, is_some, codes}
 use Rattle.order_core.specs.Logs.{log_of}
