@@ -10,6 +10,8 @@ mod seat;
 mod setup;
 mod status;
 mod step;
+#[cfg(test)]
+mod tests;
 mod tracker;
 mod unit;
 

@@ -1,0 +1,104 @@
+use super::*;
+use elf_image::load;
+use std::alloc::Global;
+use std::test::Fail;
+use syscall_drain::{End, Guest};
+
+/// A program at 0x10000 that writes `hi` and exits: the file's header, its one program header, ten words.
+const HI: [u32; 31] = [
+    0x464c_457f,
+    0x0001_0101,
+    0,
+    0,
+    0x00f3_0002,
+    1,
+    0x0001_0000,
+    52,
+    0,
+    0,
+    0x0020_0034,
+    1,
+    0,
+    1,
+    84,
+    0x0001_0000,
+    0x0001_0000,
+    40,
+    40,
+    7,
+    4,
+    0x0001_05b7,
+    0x0245_8593,
+    0x0010_0513,
+    0x0030_0613,
+    0x0400_0893,
+    0x0000_0073,
+    0x0000_0513,
+    0x05d0_0893,
+    0x0000_0073,
+    0x000a_6968,
+];
+
+/// One core that runs the image of these words, with no input.
+fn setup_of(alloc: Global, words: &[u32]) -> Result<Setup, Fail> {
+    let mut bytes = Vec::new(alloc);
+    for word in words {
+        bytes.extend_from_slice(&word.to_le_bytes())?;
+    }
+    let image = load(alloc, &bytes, 1, 16, 256)?;
+    let guest = Guest::new(image, Vec::new(alloc));
+    Ok(Setup::new(guest, 1_048_576, 4_294_967_280))
+}
+
+#[test]
+fn hi_is_stepped_to_its_end(rt: HostRuntime) -> Result<(), Fail> {
+    let no_such_core = Stepped::Refused(StepFault::NoSuchCore);
+    let setup = setup_of(rt.alloc(), &HI)?;
+    let mut tracker = Tracker::create(rt.alloc(), &setup)?;
+    assert_eq!(rt; tracker.step(1), no_such_core);
+    for unit in 0..13 {
+        assert!(rt; tracker.outcome(0).is_none(), "before unit {unit}");
+        assert_eq!(rt; tracker.step(0), Stepped::Went, "unit {unit}");
+    }
+    assert_eq!(rt; tracker.step(0), Stepped::Refused(StepFault::Ended));
+    assert_eq!(rt; tracker.step(1), no_such_core);
+    let outcome = tracker.outcome(0).ok_or("has not ended")?;
+    assert_eq!(rt; outcome.end, End::Exit(0));
+    assert_eq!(rt; outcome.units, 13);
+    assert_eq!(rt; outcome.trap, None);
+    let finished = tracker.finish().ok().ok_or("is not finished")?;
+    assert_eq!(rt; finished.output().as_slice(), b"hi\n".as_slice());
+    assert_eq!(rt; finished.order().as_slice(), [0; 13].as_slice());
+    assert_eq!(rt; status_of(&finished), 0);
+    Ok(())
+}
+
+#[test]
+fn a_core_that_has_not_ended_is_not_finished(rt: HostRuntime) -> Result<(), Fail> {
+    let setup = setup_of(rt.alloc(), &HI)?;
+    let mut tracker = Tracker::create(rt.alloc(), &setup)?;
+    for unit in 0..3 {
+        assert_eq!(rt; tracker.step(0), Stepped::Went, "unit {unit}");
+    }
+    assert!(rt; tracker.finish().is_err());
+    Ok(())
+}
+
+#[test]
+fn a_call_that_is_not_built_changes_nothing(rt: HostRuntime) -> Result<(), Fail> {
+    // The fifth word of the program sets the number of its first call: 57 in place of 64.
+    let mut words = HI;
+    words[25] = 0x0390_0893;
+    let setup = setup_of(rt.alloc(), &words)?;
+    let mut tracker = Tracker::create(rt.alloc(), &setup)?;
+    // The unit of the call itself decides it, so that only the five before it go.
+    for unit in 0..5 {
+        assert_eq!(rt; tracker.step(0), Stepped::Went, "unit {unit}");
+    }
+    let later = Stepped::Refused(StepFault::Later);
+    for attempt in 0..2 {
+        assert_eq!(rt; tracker.step(0), later, "attempt {attempt}");
+        assert!(rt; tracker.outcome(0).is_none(), "attempt {attempt}");
+    }
+    Ok(())
+}
