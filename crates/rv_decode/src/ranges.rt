@@ -53,40 +53,23 @@ pub fn fits(insn: Insn) -> bool
         Insn::Lui { rd, imm } | Insn::Auipc { rd, imm } => is_register(rd) && is_upper(imm),
         Insn::Jal { rd, imm } => is_register(rd) && is_jump_offset(imm),
         Insn::Jalr { rd, rs1, imm } => is_register(rd) && is_register(rs1) && is_twelve_bits(imm),
-        Insn::Branch {
-            kind: _,
-            rs1,
-            rs2,
-            imm,
-        } => { is_register(rs1) && is_register(rs2) && is_branch_offset(imm) }
-        Insn::Load {
-            kind: _,
-            rd,
-            rs1,
-            imm,
-        } => { is_register(rd) && is_register(rs1) && is_twelve_bits(imm) }
-        Insn::Store {
-            kind: _,
-            rs1,
-            rs2,
-            imm,
-        } => { is_register(rs1) && is_register(rs2) && is_twelve_bits(imm) }
+        Insn::Branch { rs1, rs2, imm, .. } => {
+            is_register(rs1) && is_register(rs2) && is_branch_offset(imm)
+        }
+        Insn::Load { rd, rs1, imm, .. } => {
+            is_register(rd) && is_register(rs1) && is_twelve_bits(imm)
+        }
+        Insn::Store { rs1, rs2, imm, .. } => {
+            is_register(rs1) && is_register(rs2) && is_twelve_bits(imm)
+        }
         Insn::Imm { kind, rd, rs1, imm } => {
             is_register(rd) && is_register(rs1) && is_operand(kind, imm)
         }
-        Insn::Reg {
-            kind: _,
-            rd,
-            rs1,
-            rs2,
-        }
+        Insn::Reg { rd, rs1, rs2, .. }
         | Insn::Sc { rd, rs1, rs2 }
-        | Insn::Amo {
-            kind: _,
-            rd,
-            rs1,
-            rs2,
-        } => { is_register(rd) && is_register(rs1) && is_register(rs2) }
+        | Insn::Amo { rd, rs1, rs2, .. } => {
+            is_register(rd) && is_register(rs1) && is_register(rs2)
+        }
         Insn::Fence | Insn::Ecall | Insn::Ebreak => true,
         Insn::Lr { rd, rs1 } => is_register(rd) && is_register(rs1),
     }
