@@ -59,9 +59,8 @@ fn put_out(output: &mut Bytes, seat: &Seat, place: Option<u32>)
     requires { length output.old.items + length (bytes_placed place (local_in seat.now).gathered) ≤ output.old.room }
     ensures { output.new ≡ record output.old { items = output.old.items ++ bytes_placed place (local_in seat.now).gathered } }
 {
-    match place {
-        Some(_) => append(output, seat.state.gathered()),
-        None => {}
+    if place.is_some() {
+        append(output, seat.state.gathered());
     }
 }
 

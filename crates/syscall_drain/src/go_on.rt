@@ -92,9 +92,8 @@ impl LocalCore {
         ensures units { self.new.units ≡ self.old.units }
     {
         self.phase = phase;
-        match phase {
-            Phase::Gathering { .. } => self.gathered.clear(),
-            _ => {}
+        if let Phase::Gathering { .. } = phase {
+            self.gathered.clear();
         }
     }
 
@@ -266,12 +265,9 @@ impl LocalCore {
         ensures step { local_seen self.new ≡ record (local_seen self.old) { gathered = self.old.gathered ++ bytes_of (local_seen self.old) word self.old.phase } }
         ensures units { self.new.units ≡ self.old.units }
     {
-        match self.phase {
-            Phase::Gathering { index } => {
-                let buffer = call_buffer(&self.hart);
-                gather_word(&mut self.gathered, buffer, index, word);
-            }
-            _ => {}
+        if let Phase::Gathering { index } = self.phase {
+            let buffer = call_buffer(&self.hart);
+            gather_word(&mut self.gathered, buffer, index, word);
         }
     }
 
@@ -331,13 +327,8 @@ impl LocalCore {
         ensures { local_seen self.new ≡ spent_unit budget (local_seen self.old) }
     {
         self.units += 1;
-        match self.end {
-            Some(_) => {}
-            None => {
-                if self.units == budget {
-                    self.end = Some(End::Budget);
-                }
-            }
+        if self.end.is_none() && self.units == budget {
+            self.end = Some(End::Budget);
         }
     }
 
