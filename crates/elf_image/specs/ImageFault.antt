@@ -1,5 +1,5 @@
 -- Why a file is no image: sixteen tests of its bytes and of the memory that is asked for, and the first of them that applies (System V gABI, "ELF Header" and "Program Header"; RISC-V psABI, "File Header").
-use Rattle.std.specs.Prelude.{ℕ, ◌+◌, ◌*◌, ◌%◌, List, [], ◌∷◌, ◌++◌, length, slice_index, Option, Some, None, Bool, false, not, ◌&&◌, ◌||◌, ◌==◌, nat_eq, nat_lt, if◌then◌else◌}
+use Rattle.std.specs.Prelude.{◌≡◌, ℕ, ◌+◌, ◌*◌, ◌%◌, ◌≤◌, List, [], ◌∷◌, ◌++◌, length, slice_index, Option, Some, None, Bool, false, not, ◌&&◌, ◌||◌, ◌==◌, nat_eq, nat_lt, if◌then◌else◌}
 use Rattle.std.specs.List.{list_any, starts_with}
 use Rattle.elf_image.specs.Elf.{number_at, has_bits, entry_address, table_offset, header_flags, table_entry_size, table_entries, program_headers, is_load, segments}
 use Rattle.elf_image.specs.Layout.{Layout, layout_of, page_of, all_pages, count_below, is_mapped, is_executable_page, end_of_heap}
@@ -152,3 +152,12 @@ map_tests layout = test (is_too_large layout) TooLarge ∷ test (has_bad_entry l
 unfoldable pub image_fault : List ℕ → ℕ → ℕ → ℕ → Option ImageFault
 image_fault bytes cores stack heap =
     first_fault (file_tests bytes heap ++ map_tests (layout_of bytes cores stack heap))
+
+-- the numbers of a layout are in their ranges, and no test applies to its file
+pub record IsAccepted (layout : Layout) : Type 0 where
+  pub some_cores : 1 ≤ layout.cores
+  pub most_cores : layout.cores ≤ 8
+  pub some_stack : 1 ≤ layout.stack
+  pub most_stack : layout.stack ≤ 4096
+  pub most_heap : layout.heap ≤ 4096
+  pub sound : image_fault layout.bytes layout.cores layout.stack layout.heap ≡ None

@@ -1,7 +1,7 @@
 //! The memory map of a loaded file.
 ghost use Rattle.std.specs.Prelude.{◌≡◌, ◌≢◌, ◌/◌, ◌%◌, ◌<◌, ◌≤◌, length, Some, None, IfOk, IfErr, OnOk};
 ghost use Rattle.elf_image.specs.Elf.{segments};
-ghost use Rattle.elf_image.specs.ImageFault.{image_fault};
+ghost use Rattle.elf_image.specs.ImageFault.{IsAccepted, image_fault};
 ghost use Rattle.elf_image.specs.Layout.{break_base, entry_of, fetched, first_word, heap_end, is_writable, layout_of, segment_at, word_of, words_of};
 ghost use Rattle.elf_image.specs.Memory.{page_of_layout};
 
@@ -49,13 +49,14 @@ pub struct Image {
 impl Model for Image {
     ghost use Rattle.std.specs.Prelude.{◌≤◌};
     ghost use Rattle.elf_image.specs.Layout.{Layout, layout_of};
+    ghost use Rattle.elf_image.specs.ImageFault.{IsAccepted};
     ghost use Rattle.elf_image.specs.Memory.{IsMemoryOf, IsReadFrom};
 
     ghost Value = { Layout };
 
     ghost view = { λ image. layout_of image.bytes.items image.cores image.stack image.heap };
 
-    ghost invariant = { λ image. IsMemoryOf (layout_of image.bytes.items image.cores image.stack image.heap) image.mapped.items image.permissions.items image.words.items × IsReadFrom (layout_of image.bytes.items image.cores image.stack image.heap) image.segments.items image.break_base image.entry };
+    ghost invariant = { λ image. IsMemoryOf (layout_of image.bytes.items image.cores image.stack image.heap) image.mapped.items image.permissions.items image.words.items × IsReadFrom (layout_of image.bytes.items image.cores image.stack image.heap) image.segments.items image.break_base image.entry × IsAccepted (layout_of image.bytes.items image.cores image.stack image.heap) };
 }
 
 /// The image of a file for a count of cores, of the pages of each core's stack and of those of the
@@ -104,7 +105,8 @@ pub fn load(
 impl Image {
     /// The count of cores.
     pub fn cores(&self) -> u8
-        ensures { result ≡ self.now.cores }
+        ensures cores { result ≡ self.now.cores }
+        ensures accepted { IsAccepted self.now }
     {
         self.cores
     }

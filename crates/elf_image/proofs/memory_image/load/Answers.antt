@@ -47,6 +47,17 @@ invariant_of-result c =
     rw c.in_ok-kept.ensures.items (
       memory-from c.args.bytes.now c.args.cores c.args.stack c.args.heap c.in_ok-segments.segments.items c.in_ok-table.table.mapped.items c.in_ok-table.table.permissions.items c.in_ok-words.words.items c.in_ok-segments.ensures.segments table few contents,
       read-from c.args.bytes.now c.args.cores c.args.stack c.args.heap c.break_page.result c.entry_address-entry.result c.in_ok-segments.segments.items c.in_ok-segments.ensures.segments c.in_ok-segments.ensures.few c.in_ok-segments.ensures.ends first c.in_ok-segments.ensures.heap_end c.entry_address-entry.ensures (entry-aligned c.entry_address-entry.result _ c.in_ok-check_entry.ensures),
+      record {
+        some_cores = c.requires.cores_low;
+        most_cores = c.requires.cores_high;
+        some_stack = c.requires.stack_low;
+        most_stack = c.requires.stack_high;
+        most_heap = c.requires.heap_high;
+        sound =
+            let fit : count_below (maps c.deref.result.now c.args.cores c.args.stack c.args.heap) all_pages ≤ 4096 =
+            table-few _ _ _ _ c.in_ok-table.ensures.table (sym c.in_ok-table.table.mapped.ok.0) c.in_ok-table.ensures.few in
+            image-entry c.args.bytes.now c.args.cores c.args.stack c.args.heap c.entry_address-entry.result c.deref.result.now None c.in_ok-segments.ensures.accepted (c.deref.ensures.value ∙ c.in_ok-segments.ensures.segments) fit c.entry_address-entry.ensures (c.in_ok-check_entry.ensures ∙ at_segments c.entry_address-entry.result c.deref-2.result.now c.deref.result.now (c.deref-2.ensures.value ∙ sym c.deref.ensures.value));
+      },
     )
 
 pub returns-clause-accepted : goal.returns-clause-accepted
