@@ -8,7 +8,7 @@ ghost use Rattle.run_cli.specs.Preparing.{RefusesImage, RefusesRun, HasRunTo, Is
 use crate::ending::Ending;
 use crate::image::{HEADER_BYTES, MOST_BYTES, is_small_image};
 use crate::words::image_name;
-use elf_image::{Image, ImageFault, load};
+use elf_image::{Image, load};
 use inline_tracker::{Finished, Setup, StepFault, Stepped, Tracker};
 use outside::{FileFault, Files};
 use std::alloc::Global;
@@ -49,8 +49,8 @@ fn read_image<F: Files>(alloc: Global, words: &[String], files: &mut F) -> Resul
     }
 }
 
-/// The image of a file, if it is one of those that are loaded today. These have no fault.
-#[tactic(auto, using(crate::proofs::SmallFaults::small_is_sound))]
+/// The image of a file, if it is one of those that are loaded today. These have no fault, so that loading one fails
+/// for want of memory alone.
 fn load_small(alloc: Global, bytes: &[u8]) -> Result<Image, Ending>
     ensures image { IfOk result (λ image. image ≡ (setup_of bytes.now).program.layout) }
     ensures small { IfOk result (λ _. IsSmallImage bytes.now) }
@@ -64,8 +64,7 @@ fn load_small(alloc: Global, bytes: &[u8]) -> Result<Image, Ending>
     }
     match load(alloc, bytes, CORES, STACK_PAGES, HEAP_PAGES) {
         Ok(image) => Ok(image),
-        Err(ImageFault::NoMemory) => Err(Ending::Memory),
-        Err(_) => Err(Ending::Later),
+        Err(_) => Err(Ending::Memory),
     }
 }
 
