@@ -11,7 +11,7 @@ pub returns-clause-stands : goal.returns-clause-stands
 returns-clause-stands c =
     let s = c.args.setup.now in
     let image = c.image-image.ensures ∙ ap (λ (p : Program). p.layout) c.guest.ensures.guest in
-    let cores = c.cores.ensures ∙ ap (λ (layout : Layout). layout.cores) image in
+    let cores = c.cores.ensures.cores ∙ ap (λ (layout : Layout). layout.cores) image in
     let few : cores_of s ≤ 255 = omega (arith, cores, c.cores.type_inv) in
     let cells = c.in_ok-first_cells.ensures ∙ ap (λ (layout : Layout). map (first_cell layout) (range_with_len 0 (words_of layout))) image in
     record {
