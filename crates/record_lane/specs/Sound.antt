@@ -12,10 +12,11 @@ use Rattle.record_lane.specs.declared.reply.Reply.{Reply}
 abbrev pub IsUnit : Insn → Type 0
 IsUnit insn = Fits insn × (¬ IsSystem insn)
 
+-- each touched byte is one of the four of its word
 abbrev pub IsSoundWhy : Why → Type 0
-IsSoundWhy (ByInsn insn hit) = IsUnit insn × IsTouching insn
-IsSoundWhy (Fill whole) = Unit {0}
-IsSoundWhy Gather = Unit {0}
+IsSoundWhy (ByInsn insn hit bytes) = IsUnit insn × IsTouching insn × (bytes < 16)
+IsSoundWhy (Fill bytes) = bytes < 16
+IsSoundWhy (Gather bytes) = bytes < 16
 IsSoundWhy Claim = Unit {0}
 IsSoundWhy Spent = Unit {0}
 

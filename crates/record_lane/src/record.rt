@@ -1,14 +1,14 @@
 use rv_decode::Insn;
 
-/// Why a unit touched a word.
+/// Why a unit touched a word. Bit i of `bytes` is set where byte i of the word, from the lowest on, is touched.
 #[derive(Clone, Copy, Debug, PartialEq, Eq)]
 pub enum Why {
     /// The access of an instruction. `hit` is false only for a store-conditional that did not store.
-    Insn { insn: Insn, hit: bool },
-    /// A store of a read call; `whole` where it stores all four bytes.
-    Fill { whole: bool },
+    Insn { insn: Insn, hit: bool, bytes: u8 },
+    /// A store of a read call.
+    Fill { bytes: u8 },
     /// A read of a write call.
-    Gather,
+    Gather { bytes: u8 },
     /// A call's claim on a device word.
     Claim,
     /// An access at or above the run's limit, which changed nothing but the count.

@@ -1,0 +1,9 @@
+pub mod Seats
+pub mod Prefixes
+pub mod LaneSteps
+pub mod RingSlots
+pub mod RingEnds
+pub mod RingSends
+pub mod RingTakes
+pub mod RingShares
+pub mod RingSeats

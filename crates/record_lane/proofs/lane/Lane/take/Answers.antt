@@ -1,0 +1,7 @@
+use Rattle.std.proofs.Common.{ap}
+use Rattle.record_lane.proofs.LaneSteps.{takes, sees_taken}
+use Rattle.record_lane.proofs.lane.Lane.take.Goals as goal
+
+pub pop_as-requires-clause-rule : goal.pop_as-requires-clause-rule
+pop_as-requires-clause-rule g c =
+    let may = ap (λ v. v.takes) c.requires.1 in (takes g.T.Item.sound _ _ may, sees_taken g.T.Item.sound _ _ may)
