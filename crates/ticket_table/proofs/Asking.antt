@@ -1,14 +1,14 @@
--- The seat of one caller, which has looked at a word, may exchange it for what the caller's entry leaves.
+-- The seat of one caller, which has looked at a word, may exchange it for what the caller's change leaves.
 use Rattle.std.proofs.Common.{◌≡◌, ℕ, ◌+◌, ◌<◌, Bool, true, false, ◌||◌, List, length, eqb, refl, sym, ap, subst, ◌∙◌, eq-eqb}
 use mathlib.Core.Option.{some}
 use prog.Atomic.{either}
 use Rattle.atomic_table.specs.Table.{Me, step, Allows}
 use Rattle.rv_execute.specs.declared.op.Op.{Op}
-use Rattle.ticket_table.specs.declared.entry.Role.{Role}
-use Rattle.ticket_table.specs.declared.entry.Role.TheVariants.{Serve}
-use Rattle.ticket_table.specs.declared.entry.Entry.{Entry}
-use Rattle.ticket_table.specs.declared.entry.View.{View}
-use Rattle.ticket_table.specs.declared.entry.Note.{Note}
+use Rattle.ticket_table.specs.declared.change.Role.{Role}
+use Rattle.ticket_table.specs.declared.change.Role.TheVariants.{Serve}
+use Rattle.ticket_table.specs.declared.change.Change.{Change}
+use Rattle.ticket_table.specs.declared.change.View.{View}
+use Rattle.ticket_table.specs.declared.change.Note.{Note}
 use Rattle.ticket_table.specs.Words.{number_of, payload_of, word_of}
 use Rattle.ticket_table.specs.History.{Basis, has_spent, left_by}
 use Rattle.ticket_table.specs.Views.{has, IsAlone, looked, looked_at}
@@ -21,8 +21,8 @@ has_alone v caller alone =
     ap (λ (callers : List ℕ). has callers caller) alone.callers ∙ ap (λ (b : Bool). b || false) (eq-eqb caller caller refl)
 
 -- no server is spent
-pub serves_on : (role : Role) (limit : ℕ) (entries : List Entry) → role ≡ Serve → has_spent role limit entries ≡ false
-serves_on role limit entries serve = ap (λ (r : Role). has_spent r limit entries) serve
+pub serves_on : (role : Role) (limit : ℕ) (changes : List Change) → role ≡ Serve → has_spent role limit changes ≡ false
+serves_on role limit changes serve = ap (λ (r : Role). has_spent r limit changes) serve
 
 pub asks_after_look : (v : View) (steps word seen new second : ℕ) (note : Note) → IsAlone v note.caller → has_spent v.terms.role v.terms.limit v.mine ≡ false
     → number_of seen < v.terms.limit + v.terms.callers → new ≡ left_by v.terms.role v.terms.limit note.op (number_of seen) (payload_of seen) → new < 4294967296
@@ -33,7 +33,7 @@ asks_after_look v steps word seen new second note alone unspent below is small w
       caller = has_alone v note.caller alone;
       last = refl;
       below = below;
-      unspent = ap (λ (entries : List Entry). has_spent v.terms.role v.terms.limit entries) alone.own ∙ unspent;
+      unspent = ap (λ (changes : List Change). has_spent v.terms.role v.terms.limit changes) alone.own ∙ unspent;
       small = (let P : ℕ → Type 0 = λ n. n < 4294967296 in subst P is small);
       written = written ∙ ap (λ (n : ℕ). word_of (number_of seen + 1) n) is;
     }

@@ -2,18 +2,18 @@
 use Rattle.std.proofs.Common.{◌≡◌, ℕ, zero, suc, ◌+◌, ◌<◌, false, List, [], ◌∷◌, ◌++◌, None, refl, sym, ap, subst, ◌∙◌, arith, append_assoc}
 use Rattle.atomic_table.specs.Table.{Me, Splits}
 use Rattle.atomic_table.specs.Seated.{TableId}
-use Rattle.ticket_table.specs.declared.entry.Role.{Role}
-use Rattle.ticket_table.specs.declared.entry.Role.TheVariants.{Draw, Serve}
-use Rattle.ticket_table.specs.declared.entry.Terms.{Terms}
-use Rattle.ticket_table.specs.declared.entry.View.{View}
-use Rattle.ticket_table.specs.declared.entry.Note.{Note}
+use Rattle.ticket_table.specs.declared.change.Role.{Role}
+use Rattle.ticket_table.specs.declared.change.Role.TheVariants.{Draw, Serve}
+use Rattle.ticket_table.specs.declared.change.Terms.{Terms}
+use Rattle.ticket_table.specs.declared.change.View.{View}
+use Rattle.ticket_table.specs.declared.change.Note.{Note}
 use Rattle.ticket_table.specs.History.{Basis, has_spent}
 use Rattle.ticket_table.specs.Views.{IsAlone, stock, without_first, first_alone}
 use Rattle.ticket_table.specs.Rule.{Kept}
 use Rattle.ticket_table.specs.Passes.{PassSeen, fresh_from}
 use Rattle.ticket_table.proofs.Sharing.{splits_stock}
 
--- who has no entry is not spent
+-- who has no change is not spent
 pub none_spent : (role : Role) (limit : ℕ) → has_spent role limit [] ≡ false
 none_spent Draw limit = refl
 none_spent Serve limit = refl
@@ -38,9 +38,9 @@ not_spent v terms caller is = sym (ap (λ (u : View). has_spent u.terms.role u.t
 
 -- the pass of such a seat is fresh
 pub pass_is : (found table : TableId) (v : View) (terms : Terms) (caller : ℕ) → found ≡ table → v ≡ stock terms caller 1
-    → ◌≡◌ {A = PassSeen} (record { table = found; terms = v.terms; caller = caller; entries = v.mine; last = v.last; steps = v.steps })
-    (record { table = table; terms = terms; caller = caller; entries = []; last = None; steps = 0 })
-pass_is found table v terms caller same is = λ i. record { table = same i; terms = (is i).terms; caller = caller; entries = (is i).mine; last = (is i).last; steps = (is i).steps }
+    → ◌≡◌ {A = PassSeen} (record { table = found; terms = v.terms; caller = caller; changes = v.mine; last = v.last; steps = v.steps })
+    (record { table = table; terms = terms; caller = caller; changes = []; last = None; steps = 0 })
+pass_is found table v terms caller same is = λ i. record { table = same i; terms = (is i).terms; caller = caller; changes = (is i).mine; last = (is i).last; steps = (is i).steps }
 
 -- what a deal has so far: `rest` callers are still without a pass, and the seat stands for them
 pub record Dealt (table : TableId) (terms : Terms) (callers caller : ℕ) (me : Me Note View) (passes : List PassSeen) : Type 0 where
@@ -51,7 +51,7 @@ pub record Dealt (table : TableId) (terms : Terms) (callers caller : ℕ) (me : 
 
 -- one more pass
 pub deals : (table : TableId) (terms : Terms) (callers caller : ℕ) (me : Me Note View) (passes : List PassSeen) (p : PassSeen) → caller < callers → Dealt table terms callers caller me passes
-    → p ≡ record { table = table; terms = terms; caller = caller; entries = []; last = None; steps = 0 }
+    → p ≡ record { table = table; terms = terms; caller = caller; changes = []; last = None; steps = 0 }
     → (next : Me Note View) → next ≡ (without_first me.0, me.1) → Dealt table terms callers (caller + 1) next (passes ++ p ∷ [])
 deals table terms callers caller me passes p below so_far is next after = by so_far.rest so_far.count so_far.stands so_far.dealt
   where
@@ -63,5 +63,5 @@ deals table terms callers caller me passes p below so_far is next after = by so_
         let stood : next ≡ (stock terms (caller + 1) rest, []) = after ∙ ap without stands in
         let P : PassSeen → Type 0 = λ q. (passes ++ q ∷ []) ++ fresh_from table terms (caller + 1) rest ≡ fresh_from table terms 0 callers in
         let all : (passes ++ p ∷ []) ++ fresh_from table terms (caller + 1) rest ≡ fresh_from table terms 0 callers =
-        subst P (sym is) (append_assoc passes (record { table = table; terms = terms; caller = caller; entries = []; last = None; steps = 0 } ∷ []) (fresh_from table terms (caller + 1) rest) ∙ dealt) in
+        subst P (sym is) (append_assoc passes (record { table = table; terms = terms; caller = caller; changes = []; last = None; steps = 0 } ∷ []) (fresh_from table terms (caller + 1) rest) ∙ dealt) in
         record { rest = rest; count = omega arith; stands = stood; dealt = all }

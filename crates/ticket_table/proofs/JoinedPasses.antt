@@ -4,9 +4,9 @@ use Rattle.std.proofs.lemmas.Bool.{cases_eq, or_left, or_right, eqb-true}
 use Rattle.std.proofs.lemmas.Option.{slice_get_within}
 use Rattle.atomic_table.specs.Table.{State, Final, Seen}
 use Rattle.atomic_table.specs.Seated.{TableId}
-use Rattle.ticket_table.specs.declared.entry.Entry.{Entry}
-use Rattle.ticket_table.specs.declared.entry.View.{View}
-use Rattle.ticket_table.specs.declared.entry.Note.{Note}
+use Rattle.ticket_table.specs.declared.change.Change.{Change}
+use Rattle.ticket_table.specs.declared.change.View.{View}
+use Rattle.ticket_table.specs.declared.change.Note.{Note}
 use Rattle.ticket_table.specs.History.{Basis, of_caller}
 use Rattle.ticket_table.specs.Views.{has, IsAlone, together}
 use Rattle.ticket_table.specs.Rule.{Kept}
@@ -29,29 +29,30 @@ last_one items p q place le is = by (get_at_end items p q place is)
     by (inl before) = let within = slice_get_within items place q before in absurd (omega arith)
     by (inr here) = here.1
 
--- the entries of one caller are not another's
-none_of : (caller other : ℕ) (entries : List Entry) → caller ≢ other → of_caller other (of_caller caller entries) ≡ []
+-- the changes of one caller are not another's
+none_of : (caller other : ℕ) (changes : List Change) → caller ≢ other → of_caller other (of_caller caller changes) ≡ []
 none_of caller other [] apart = refl
-none_of caller other (e ∷ entries) apart = by (eqb e.caller caller) refl (none_of caller other entries apart)
+none_of caller other (e ∷ changes) apart = by (eqb e.caller caller) refl (none_of caller other changes apart)
   where
-    by : (b : Bool) → eqb e.caller caller ≡ b → of_caller other (of_caller caller entries) ≡ [] → of_caller other (cond b (e ∷ of_caller caller entries) (of_caller caller entries)) ≡ []
+    by : (b : Bool) → eqb e.caller caller ≡ b → of_caller other (of_caller caller changes) ≡ [] → of_caller other (cond b (e ∷ of_caller caller changes) (of_caller caller changes)) ≡ []
     by true is rest =
         let other_one : eqb e.caller other ≡ false = ne_eqb e.caller other (λ same. apart (sym (eqb-true e.caller caller is) ∙ same)) in
-        ap (λ (b : Bool). cond b (e ∷ of_caller other (of_caller caller entries)) (of_caller other (of_caller caller entries))) other_one ∙ rest
+        ap (λ (b : Bool). cond b (e ∷ of_caller other (of_caller caller changes)) (of_caller other (of_caller caller changes))) other_one ∙ rest
     by false is rest = rest
 
 alone_only : (v : View) (caller other : ℕ) → IsAlone v caller → caller ≢ other → of_caller other v.mine ≡ []
-alone_only v caller other alone apart = ap (λ (entries : List Entry). of_caller other entries) (sym alone.own) ∙ none_of caller other v.mine apart
+alone_only v caller other alone apart = ap (λ (changes : List Change). of_caller other changes) (sym alone.own) ∙ none_of caller other v.mine apart
 
 -- ---- the last pass
 
-pub starts : (ps items : List PassSeen) (p : PassSeen) (v : View) → ps ≡ items ++ p ∷ [] → IsAlone v p.caller → v.mine ≡ p.entries → HasFrom (length items) ps v
+pub starts : (ps items : List PassSeen) (p : PassSeen) (v : View) → ps ≡ items ++ p ∷ [] → IsAlone v p.caller → v.mine ≡ p.changes → HasFrom (length items) ps v
 starts ps items p v whole alone mine =
     let P : List PassSeen → Type 0 = λ qs. HasFrom (length items) qs v in
     subst P (sym whole) (record {
+      live = alone.live;
       callers = λ place q le is. ap (λ (r : PassSeen). has v.callers r.caller) (sym (last_one items p q place le is)) ∙ has_alone v p.caller alone;
       lists = λ place q le is.
-          let Q : PassSeen → Type 0 = λ r. of_caller r.caller v.mine ≡ r.entries in
+          let Q : PassSeen → Type 0 = λ r. of_caller r.caller v.mine ≡ r.changes in
           subst Q (last_one items p q place le is) (alone.own ∙ mine);
       only = λ caller none_is. alone_only v p.caller caller alone (none_is (length items) p (omega arith) (get_here items [] p));
     })
@@ -59,7 +60,7 @@ starts ps items p v whole alone mine =
 -- ---- one pass more
 
 module _ (table : TableId) (ps : List PassSeen) (are : ArePasses table ps) (items : List PassSeen) (p : PassSeen) (here : slice_get ps (length items) ≡ Some p) (v w : View)
-    (so_far : HasFrom (suc (length items)) ps v) (alone : IsAlone w p.caller) (mine : w.mine ≡ p.entries) where
+    (so_far : HasFrom (suc (length items)) ps v) (alone : IsAlone w p.caller) (mine : w.mine ≡ p.changes) where
   -- a pass behind has another caller
   other_caller : (place : ℕ) (q : PassSeen) → suc (length items) ≤ place → slice_get ps place ≡ Some q → q.caller ≢ p.caller
   other_caller place q le is same = let one = are.apart place (length items) q p is here same in omega arith
@@ -73,28 +74,29 @@ module _ (table : TableId) (ps : List PassSeen) (are : ArePasses table ps) (item
           has_both v.callers w.callers q.caller ∙ or_right (has v.callers q.caller) (has w.callers q.caller) (ap (λ (r : PassSeen). has w.callers r.caller) (sym same) ∙ has_alone w p.caller alone)
       by (inr later) = has_both v.callers w.callers q.caller ∙ or_left (has v.callers q.caller) (has w.callers q.caller) (so_far.callers place q (omega arith) is)
 
-  joined_lists : (place : ℕ) (q : PassSeen) → length items ≤ place → slice_get ps place ≡ Some q → of_caller q.caller (v.mine ++ w.mine) ≡ q.entries
+  joined_lists : (place : ℕ) (q : PassSeen) → length items ≤ place → slice_get ps place ≡ Some q → of_caller q.caller (v.mine ++ w.mine) ≡ q.changes
   joined_lists place q le is = by (cases_eq place (length items))
     where
-      by : (place ≡ length items) ⊎ (place ≢ length items) → of_caller q.caller (v.mine ++ w.mine) ≡ q.entries
+      by : (place ≡ length items) ⊎ (place ≢ length items) → of_caller q.caller (v.mine ++ w.mine) ≡ q.changes
       by (inl at) =
           let same : p ≡ q = (let both = sym here ∙ (ap (λ (k : ℕ). slice_get ps k) (sym at) ∙ is) in cc) in
-          let P : PassSeen → Type 0 = λ r. of_caller r.caller (v.mine ++ w.mine) ≡ r.entries in
-          subst P same (of_both p.caller v.mine w.mine ∙ ap (λ (xs : List Entry). xs ++ of_caller p.caller w.mine) (so_far.only p.caller other_caller) ∙ (alone.own ∙ mine))
+          let P : PassSeen → Type 0 = λ r. of_caller r.caller (v.mine ++ w.mine) ≡ r.changes in
+          subst P same (of_both p.caller v.mine w.mine ∙ ap (λ (xs : List Change). xs ++ of_caller p.caller w.mine) (so_far.only p.caller other_caller) ∙ (alone.own ∙ mine))
       by (inr later) =
           let behind : suc (length items) ≤ place = omega arith in
           of_both q.caller v.mine w.mine
-          ∙ ap (λ (xs : List Entry). of_caller q.caller v.mine ++ xs) (alone_only w p.caller q.caller alone (λ same. other_caller place q behind is (sym same)))
+          ∙ ap (λ (xs : List Change). of_caller q.caller v.mine ++ xs) (alone_only w p.caller q.caller alone (λ same. other_caller place q behind is (sym same)))
           ∙ append-nil (of_caller q.caller v.mine) ∙ so_far.lists place q behind is
 
   pub joined_one : HasFrom (length items) ps (together v w)
   joined_one =
       record {
+        live = so_far.live;
         callers = joined_callers;
         lists = joined_lists;
         only = λ caller none_is.
             of_both caller v.mine w.mine
-            ∙ ap (λ (xs : List Entry). xs ++ of_caller caller w.mine) (so_far.only caller (λ place q le is. none_is place q (omega arith) is))
+            ∙ ap (λ (xs : List Change). xs ++ of_caller caller w.mine) (so_far.only caller (λ place q le is. none_is place q (omega arith) is))
             ∙ alone_only w p.caller caller alone (none_is (length items) p (omega arith) here);
       }
 
@@ -109,7 +111,7 @@ pub last_stands : (ps items : List PassSeen) (p : PassSeen) → ps ≡ items ++ 
 last_stands ps items p whole = ap (λ (qs : List PassSeen). slice_get qs (length items)) whole ∙ get_here items [] p
 
 -- after the last pass
-pub starts_so : (ps items : List PassSeen) (p : PassSeen) (v : View) → ps ≡ items ++ p ∷ [] → IsAlone v p.caller → v.mine ≡ p.entries → SoFar ps items v
+pub starts_so : (ps items : List PassSeen) (p : PassSeen) (v : View) → ps ≡ items ++ p ∷ [] → IsAlone v p.caller → v.mine ≡ p.changes → SoFar ps items v
 starts_so ps items p v whole alone mine = record { tail = p ∷ []; whole = whole; behind = starts ps items p v whole alone mine }
 
 -- the next pass stands at the end of what is left
@@ -119,7 +121,7 @@ stands_there ps items rest p v so_far is =
     ap (λ (qs : List PassSeen). slice_get qs (length rest)) whole ∙ get_here rest so_far.tail p
 
 -- after one more
-pub joins_so : (table : TableId) (ps items rest : List PassSeen) (p : PassSeen) (v w u : View) → ArePasses table ps → SoFar ps items v → items ≡ rest ++ p ∷ [] → IsAlone w p.caller → w.mine ≡ p.entries
+pub joins_so : (table : TableId) (ps items rest : List PassSeen) (p : PassSeen) (v w u : View) → ArePasses table ps → SoFar ps items v → items ≡ rest ++ p ∷ [] → IsAlone w p.caller → w.mine ≡ p.changes
     → u ≡ together v w → SoFar ps rest u
 joins_so table ps items rest p v w u are so_far is alone mine both =
     let here = stands_there ps items rest p v so_far is in
@@ -134,7 +136,7 @@ joins_so table ps items rest p v w u are so_far is alone mine both =
 
 -- ---- the end
 
-pub closes : (basis : Basis) (ps : List PassSeen) (words : List ℕ) (slots : List Note) (id : ℕ) (v : View) → Final (Seen (Kept basis) id v) words slots → HasFrom 0 ps v → (entries : List Entry) × Closes basis ps words entries
+pub closes : (basis : Basis) (ps : List PassSeen) (words : List ℕ) (slots : List Note) (id : ℕ) (v : View) → Final (Seen (Kept basis) id v) words slots → HasFrom 0 ps v → (changes : List Change) × Closes basis ps words changes
 closes basis ps words slots id v final gathered =
     let s : State Note View = final.0 in
     let kept = final.1.0 in

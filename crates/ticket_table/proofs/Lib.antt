@@ -6,6 +6,7 @@ pub mod Keeps
 pub mod Changing
 pub mod Places
 pub mod Asking
+pub mod Reading
 pub mod Sharing
 pub mod FreshPasses
 pub mod JoinedPasses

@@ -7,32 +7,32 @@ use Rattle.std.proofs.lemmas.List.Folds.{list_any-append}
 use Rattle.std.proofs.lemmas.Cmp.{nat_eq_equiv}
 use Rattle.std.proofs.lemmas.Map.Keys.{IsDistinct-push}
 use Rattle.std.proofs.lemmas.Map.Steps.{length-le_from_distinct_below}
-use Rattle.ticket_table.specs.declared.entry.Role.{Role}
-use Rattle.ticket_table.specs.declared.entry.Role.TheVariants.{Draw, Serve}
-use Rattle.ticket_table.specs.declared.entry.Entry.{Entry}
+use Rattle.ticket_table.specs.declared.change.Role.{Role}
+use Rattle.ticket_table.specs.declared.change.Role.TheVariants.{Draw, Serve}
+use Rattle.ticket_table.specs.declared.change.Change.{Change}
 use Rattle.ticket_table.specs.History.{Basis, MayFollow, IsHistory, of_caller, count_at, has_spent}
-use Rattle.ticket_table.proofs.Histories.{by_steps, count_at-same, count_at-other, of_caller-same, of_caller-other}
+use Rattle.ticket_table.proofs.Histories.{by_steps, count_at_same, count_at_other, of_caller_same, of_caller_other}
 
 -- a spent caller stays spent
-has_spent-more : (role : Role) (limit : ℕ) (entries : List Entry) (e : Entry) → has_spent role limit entries ≡ true → has_spent role limit (entries ++ e ∷ []) ≡ true
-has_spent-more Draw limit entries e spent =
-    list_any-append (λ (x : Entry). leb limit x.number) entries (e ∷ []) ∙ or_left (list_any (λ (x : Entry). leb limit x.number) entries) (list_any (λ (x : Entry). leb limit x.number) (e ∷ [])) spent
-has_spent-more Serve limit entries e spent = absurd (cc)
+has_spent_more : (role : Role) (limit : ℕ) (changes : List Change) (e : Change) → has_spent role limit changes ≡ true → has_spent role limit (changes ++ e ∷ []) ≡ true
+has_spent_more Draw limit changes e spent =
+    list_any-append (λ (x : Change). leb limit x.number) changes (e ∷ []) ∙ or_left (list_any (λ (x : Change). leb limit x.number) changes) (list_any (λ (x : Change). leb limit x.number) (e ∷ [])) spent
+has_spent_more Serve limit changes e spent = absurd (cc)
 
 -- a number at or above the limit spends its caller
-has_spent-now : (role : Role) (limit : ℕ) (entries : List Entry) (e : Entry) → role ≡ Draw → limit ≤ e.number → has_spent role limit (entries ++ e ∷ []) ≡ true
-has_spent-now Draw limit entries e draw above =
-    list_any-append (λ (x : Entry). leb limit x.number) entries (e ∷ [])
-    ∙ or_right (list_any (λ (x : Entry). leb limit x.number) entries) (list_any (λ (x : Entry). leb limit x.number) (e ∷ []))
+has_spent_now : (role : Role) (limit : ℕ) (changes : List Change) (e : Change) → role ≡ Draw → limit ≤ e.number → has_spent role limit (changes ++ e ∷ []) ≡ true
+has_spent_now Draw limit changes e draw above =
+    list_any-append (λ (x : Change). leb limit x.number) changes (e ∷ [])
+    ∙ or_right (list_any (λ (x : Change). leb limit x.number) changes) (list_any (λ (x : Change). leb limit x.number) (e ∷ []))
     (or_left (leb limit e.number) false (le-leb limit e.number above))
-has_spent-now Serve limit entries e draw above = absurd (cc)
+has_spent_now Serve limit changes e draw above = absurd (cc)
 
 module _ (basis : Basis) where
-  abbrev is_spent : List Entry → ℕ → Bool
+  abbrev is_spent : List Change → ℕ → Bool
   is_spent h caller = has_spent basis.terms.role basis.terms.limit (of_caller caller h)
 
   -- callers that are spent, at least as many as the count of the word passes the limit by
-  record Spent (word : ℕ) (h : List Entry) : Type 0 where
+  record Spent (word : ℕ) (h : List Change) : Type 0 where
     callers : List ℕ
     distinct : IsDistinct eqb callers
     below : (q : ℕ) → list_any (eqb q) callers ≡ true → q < basis.terms.callers
@@ -43,43 +43,43 @@ module _ (basis : Basis) where
   unfolding IsDistinct
   no_callers = tt
 
-  is_spent-more : (h : List Entry) (e : Entry) (q : ℕ) → is_spent h q ≡ true → is_spent (h ++ e ∷ []) q ≡ true
-  is_spent-more h e q spent =
+  is_spent_more : (h : List Change) (e : Change) (q : ℕ) → is_spent h q ≡ true → is_spent (h ++ e ∷ []) q ≡ true
+  is_spent_more h e q spent =
       elim (cases_eq e.caller q) [
         | inl same ↦
-            ap (λ (es : List Entry). has_spent basis.terms.role basis.terms.limit es) (of_caller-same q h e same)
-            ∙ has_spent-more basis.terms.role basis.terms.limit (of_caller q h) e spent
-        | inr other ↦ ap (λ (es : List Entry). has_spent basis.terms.role basis.terms.limit es) (of_caller-other q h e other) ∙ spent
+            ap (λ (es : List Change). has_spent basis.terms.role basis.terms.limit es) (of_caller_same q h e same)
+            ∙ has_spent_more basis.terms.role basis.terms.limit (of_caller q h) e spent
+        | inr other ↦ ap (λ (es : List Change). has_spent basis.terms.role basis.terms.limit es) (of_caller_other q h e other) ∙ spent
       ]
 
   -- one more at another word, or below the limit
-  stays : (word : ℕ) (h : List Entry) (e : Entry) → count_at word (h ++ e ∷ []) ≤ basis.terms.limit ⊎ (count_at word (h ++ e ∷ []) ≡ count_at word h)
+  stays : (word : ℕ) (h : List Change) (e : Change) → count_at word (h ++ e ∷ []) ≤ basis.terms.limit ⊎ (count_at word (h ++ e ∷ []) ≡ count_at word h)
       → Spent word h → Spent word (h ++ e ∷ [])
   stays word h e count s = record {
     callers = s.callers;
     distinct = s.distinct;
     below = s.below;
-    spent = λ q has. is_spent-more h e q (s.spent q has);
+    spent = λ q has. is_spent_more h e q (s.spent q has);
     count = elim count [ inl low ↦ omega (arith, s.count) | inr same ↦ omega (arith, s.count) ];
   }
 
   -- one more at or above the limit, by a caller that was not spent
-  joins : (word : ℕ) (h : List Entry) (e : Entry) → basis.terms.role ≡ Draw → MayFollow basis h e → e.word ≡ word → basis.terms.limit ≤ e.number
+  joins : (word : ℕ) (h : List Change) (e : Change) → basis.terms.role ≡ Draw → MayFollow basis h e → e.word ≡ word → basis.terms.limit ≤ e.number
       → Spent word h → Spent word (h ++ e ∷ [])
   joins word h e draw next same above s =
       let now : is_spent (h ++ e ∷ []) e.caller ≡ true =
-      ap (λ (es : List Entry). has_spent basis.terms.role basis.terms.limit es) (of_caller-same e.caller h e refl)
-      ∙ has_spent-now basis.terms.role basis.terms.limit (of_caller e.caller h) e draw above in
+      ap (λ (es : List Change). has_spent basis.terms.role basis.terms.limit es) (of_caller_same e.caller h e refl)
+      ∙ has_spent_now basis.terms.role basis.terms.limit (of_caller e.caller h) e draw above in
       let fresh : list_any (eqb e.caller) s.callers ≡ false = not_there (list_any (eqb e.caller) s.callers) refl in
       record {
         callers = s.callers ++ e.caller ∷ [];
         distinct = IsDistinct-push nat_eq_equiv s.callers e.caller s.distinct fresh;
         below = λ q has. elim (there q has) [ inl old ↦ s.below q old | inr new ↦ subst (λ (c : ℕ). c < basis.terms.callers) (sym new) next.caller ];
         spent = λ q has. elim (there q has) [
-          | inl old ↦ is_spent-more h e q (s.spent q old)
+          | inl old ↦ is_spent_more h e q (s.spent q old)
           | inr new ↦ subst (λ (c : ℕ). is_spent (h ++ e ∷ []) c ≡ true) (sym new) now
         ];
-        count = omega (arith, s.count, count_at-same word h e same, length_push s.callers e.caller);
+        count = omega (arith, s.count, count_at_same word h e same, length_push s.callers e.caller);
       }
     where
       not_there : (b : Bool) → list_any (eqb e.caller) s.callers ≡ b → list_any (eqb e.caller) s.callers ≡ false
@@ -93,26 +93,26 @@ module _ (basis : Basis) where
             | inr new ↦ elim (or_cases (eqb q e.caller) false new) [ inl hit ↦ inr (eqb-true q e.caller hit) | inr miss ↦ absurd (cc) ]
           ]
 
-  spent_callers : basis.terms.role ≡ Draw → (word : ℕ) (h : List Entry) → IsHistory basis h → Spent word h
+  spent_callers : basis.terms.role ≡ Draw → (word : ℕ) (h : List Change) → IsHistory basis h → Spent word h
   spent_callers draw word h all =
-      by_steps basis (λ (es : List Entry). Spent word es)
+      by_steps basis (λ (es : List Change). Spent word es)
       record { callers = []; distinct = no_callers; below = λ q has. absurd (cc); spent = λ q has. absurd (cc); count = omega arith }
       step h all
     where
-      step : (h : List Entry) (e : Entry) → IsHistory basis h → MayFollow basis h e → Spent word h → Spent word (h ++ e ∷ [])
+      step : (h : List Change) (e : Change) → IsHistory basis h → MayFollow basis h e → Spent word h → Spent word (h ++ e ∷ [])
       step h e earlier next s =
           elim (cases_eq e.word word) [
             | inl same ↦
                 let number : e.number ≡ count_at word h = next.number ∙ ap (λ (w : ℕ). count_at w h) same in
                 elim (cases_lt e.number basis.terms.limit) [
-                  | inl low ↦ stays word h e (inl (omega (arith, count_at-same word h e same))) s
+                  | inl low ↦ stays word h e (inl (omega (arith, count_at_same word h e same))) s
                   | inr above ↦ joins word h e draw next same above s
                 ]
-            | inr other ↦ stays word h e (inr (count_at-other word h e other)) s
+            | inr other ↦ stays word h e (inr (count_at_other word h e other)) s
           ]
 
   -- a caller that is not spent finds each word's count below the limit and the number of callers
-  pub below_unspent : (h : List Entry) (caller word : ℕ) → IsHistory basis h → basis.terms.role ≡ Draw → caller < basis.terms.callers
+  pub below_unspent : (h : List Change) (caller word : ℕ) → IsHistory basis h → basis.terms.role ≡ Draw → caller < basis.terms.callers
       → has_spent basis.terms.role basis.terms.limit (of_caller caller h) ≡ false → count_at word h < basis.terms.limit + basis.terms.callers
   below_unspent h caller word all draw within unspent =
       let s = spent_callers draw word h all in

@@ -3,4 +3,5 @@ pub mod History
 pub mod Views
 pub mod Rule
 pub mod Passes
+pub mod Calls
 pub mod Gathered

@@ -1,23 +1,22 @@
 -- What callers see of a table, of their passes and of what a call did to them (this project's own form).
-use Rattle.std.specs.Prelude.{◌≡◌, ℕ, ◌+◌, ◌<◌, ◌≤◌, Bool, List, [], ◌∷◌, ◌++◌, length, slice_get, map, Some, None, Option}
+use Rattle.std.specs.Prelude.{◌≡◌, ℕ, ◌+◌, ◌<◌, Bool, List, [], ◌∷◌, ◌++◌, slice_get, map, Some, None, Option}
 use Rattle.std.specs.List.{range_with_len}
 use Rattle.atomic_table.specs.Seated.{TableId}
 use Rattle.rv_execute.specs.declared.op.Op.{Op}
-use Rattle.ticket_table.specs.declared.entry.Terms.{Terms}
-use Rattle.ticket_table.specs.declared.entry.Entry.{Entry}
+use Rattle.ticket_table.specs.declared.change.Terms.{Terms}
+use Rattle.ticket_table.specs.declared.change.Change.{Change}
 use Rattle.ticket_table.specs.declared.served.Served.{Served}
 use Rattle.ticket_table.specs.declared.served.Served.TheVariants.{Done, NotYet}
 use Rattle.ticket_table.specs.Words.{number_of, word_of}
-use Rattle.ticket_table.specs.History.{Basis, IsHistory, Leaves, of_caller, has_spent}
-use Rattle.ticket_table.specs.Views.{made}
+use Rattle.ticket_table.specs.History.{Basis, IsHistory, Leaves, of_caller, has_spent, made}
 
--- a pass: its table and the table's terms, its caller, the caller's entries so far in order,
+-- a pass: its table and the table's terms, its caller, the caller's changes so far in order,
 -- the word that it read or changed last with what the word was then, and how many steps on words it has made
 pub record PassSeen : Type 0 where
   pub table : TableId
   pub terms : Terms
   pub caller : ℕ
-  pub entries : List Entry
+  pub changes : List Change
   pub last : Option (ℕ × ℕ)
   pub steps : ℕ
 
@@ -32,19 +31,19 @@ IsPassOf t p = (p.table ≡ t.table) × (p.terms ≡ t.basis.terms)
 
 -- whether its caller has drawn a number at or above the limit
 abbrev pub is_spent : PassSeen → Bool
-is_spent p = has_spent p.terms.role p.terms.limit p.entries
+is_spent p = has_spent p.terms.role p.terms.limit p.changes
 
--- the entry that this pass makes of an operation, at the word with this number and payload
-abbrev pub entry_made : PassSeen → ℕ → ℕ → Op → ℕ → Entry
-entry_made p word number op old = made p.terms p.caller word number op old
+-- the change that this pass makes of an operation, at the word with this number and payload
+abbrev pub change_made : PassSeen → ℕ → ℕ → Op → ℕ → Change
+change_made p word number op old = made p.terms p.caller word number op old
 
--- the pass after one more entry, whose change left the word so, and after these steps in all
-abbrev pub with_entry : ℕ → PassSeen → Entry → PassSeen
-with_entry steps p e = record { table = p.table; terms = p.terms; caller = p.caller; entries = p.entries ++ e ∷ []; last = Some (e.word, word_of (e.number + 1) e.new); steps = steps }
+-- the pass after one change more, and after these steps in all
+abbrev pub with_change : ℕ → PassSeen → Change → PassSeen
+with_change steps p e = record { table = p.table; terms = p.terms; caller = p.caller; changes = p.changes ++ e ∷ []; last = Some (e.word, word_of (e.number + 1) e.new); steps = steps }
 
 -- the pass after a look at a word
 abbrev pub with_look : ℕ → PassSeen → ℕ → ℕ → PassSeen
-with_look steps p word found = record { table = p.table; terms = p.terms; caller = p.caller; entries = p.entries; last = Some (word, found); steps = steps }
+with_look steps p word found = record { table = p.table; terms = p.terms; caller = p.caller; changes = p.changes; last = Some (word, found); steps = steps }
 
 -- a pass became another by steps of which the last one found the word with this number; else it stayed
 abbrev pub LookedAt : PassSeen → PassSeen → ℕ → ℕ → Type 0
@@ -61,7 +60,7 @@ IfNotYet (NotYet seen) P = P seen
 
 -- the pass of a caller that has done nothing yet
 abbrev pub fresh : TableId → Terms → ℕ → PassSeen
-fresh table terms caller = record { table = table; terms = terms; caller = caller; entries = []; last = None; steps = 0 }
+fresh table terms caller = record { table = table; terms = terms; caller = caller; changes = []; last = None; steps = 0 }
 
 -- those of `count` callers from `first` on
 abbrev pub fresh_from : TableId → Terms → ℕ → ℕ → List PassSeen
@@ -76,18 +75,9 @@ pub record ArePasses (table : TableId) (ps : List PassSeen) : Type 0 where
   pub same : (place : ℕ) (p : PassSeen) → slice_get ps place ≡ Some p → p.table ≡ table
   pub apart : (i j : ℕ) (p q : PassSeen) → slice_get ps i ≡ Some p → slice_get ps j ≡ Some q → p.caller ≡ q.caller → i ≡ j
 
--- a history of the table that leaves these words, and in which each pass has its entries
-pub record Closes (basis : Basis) (ps : List PassSeen) (words : List ℕ) (entries : List Entry) : Type 0 where
-  pub history : IsHistory basis entries
-  pub leaves : Leaves basis entries words
+-- a history of the table that leaves these words, and in which each pass has its changes
+pub record Closes (basis : Basis) (ps : List PassSeen) (words : List ℕ) (changes : List Change) : Type 0 where
+  pub history : IsHistory basis changes
+  pub leaves : Leaves basis changes words
   pub callers : (place : ℕ) (p : PassSeen) → slice_get ps place ≡ Some p → p.caller < basis.terms.callers
-  pub lists : (place : ℕ) (p : PassSeen) → slice_get ps place ≡ Some p → of_caller p.caller entries ≡ p.entries
-
--- what a table keeps beside its rule
-pub record IsTable (limit : ℕ) (table : TableId) (basis : Basis) : Type 0 where
-  pub limit_is : limit ≡ basis.terms.limit
-  pub count : table.words ≡ length basis.first
-  pub slots : table.slots ≡ 0
-  pub some_word : 0 < length basis.first
-  pub some_caller : 0 < basis.terms.callers
-  pub room : basis.terms.limit + basis.terms.callers ≤ 4294967294
+  pub lists : (place : ℕ) (p : PassSeen) → slice_get ps place ≡ Some p → of_caller p.caller changes ≡ p.changes

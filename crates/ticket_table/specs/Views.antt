@@ -1,25 +1,28 @@
--- What a seat of the table knows: its view, and how a step, a split and a join change it (this project's own form).
-use Rattle.std.specs.Prelude.{◌≡◌, ℕ, ◌+◌, ◌==◌, Bool, true, false, List, [], ◌∷◌, ◌++◌, Some, None}
+-- Proof form: what a seat of the table knows, and how a step, a split and a join change it.
+use Rattle.std.specs.Prelude.{◌≡◌, ℕ, ◌+◌, ◌==◌, Bool, true, false, List, [], ◌∷◌, ◌++◌, slice_index, Some, None}
 use Rattle.std.specs.List.{list_any, range_with_len}
-use Rattle.rv_execute.specs.declared.op.Op.{Op}
-use Rattle.ticket_table.specs.declared.entry.Role.TheVariants.{Draw}
-use Rattle.ticket_table.specs.declared.entry.Terms.{Terms}
-use Rattle.ticket_table.specs.declared.entry.Entry.{Entry}
-use Rattle.ticket_table.specs.declared.entry.View.{View}
+use Rattle.ticket_table.specs.declared.change.Role.TheVariants.{Draw}
+use Rattle.ticket_table.specs.declared.change.Terms.{Terms}
+use Rattle.ticket_table.specs.declared.change.Change.{Change}
+use Rattle.ticket_table.specs.declared.change.View.{View}
 use Rattle.ticket_table.specs.Words.{word_of}
-use Rattle.ticket_table.specs.History.{Basis, of_caller, left_by}
+use Rattle.ticket_table.specs.History.{Basis, of_caller}
 
 -- whether a caller is among these
 abbrev pub has : List ℕ → ℕ → Bool
 has callers caller = list_any (λ c. c == caller) callers
 
--- it stands for one caller, and all its entries are that caller's
+-- the first of the callers that it stands for
+abbrev pub first_caller : View → ℕ
+first_caller v = slice_index v.callers 0
+
+-- it stands for one caller, and all its changes are that caller's
 pub record IsAlone (v : View) (caller : ℕ) : Type 0 where
   pub live : v.live ≡ true
   pub callers : v.callers ≡ caller ∷ []
   pub own : of_caller caller v.mine ≡ v.mine
 
--- `count` callers from `first` on, with no entry yet
+-- `count` callers from `first` on, with no change yet
 abbrev pub stock : Terms → ℕ → ℕ → View
 stock terms first count = record { live = true; terms = terms; callers = range_with_len first count; mine = []; last = None; steps = 0 }
 
@@ -39,10 +42,10 @@ abbrev pub looked : View → ℕ → ℕ → View
 looked v word found = looked_at (v.steps + 1) v word found
 
 -- after a change of a word
-abbrev pub grown_at : ℕ → View → Entry → View
+abbrev pub grown_at : ℕ → View → Change → View
 grown_at steps v e = record { live = v.live; terms = v.terms; callers = v.callers; mine = v.mine ++ e ∷ []; last = Some (e.word, word_of (e.number + 1) e.new); steps = steps }
 
-abbrev pub grown : View → Entry → View
+abbrev pub grown : View → Change → View
 grown v e = grown_at (v.steps + 1) v e
 
 -- all callers but the first
@@ -55,7 +58,7 @@ abbrev pub head_of : List ℕ → List ℕ
 head_of [] = []
 head_of (c ∷ cs) = c ∷ []
 
--- a view without its first caller, and the view of that caller, which has no entry yet
+-- a view without its first caller, and the view of that caller, which has no change yet
 abbrev pub without_first : View → View
 without_first v = record { live = v.live; terms = v.terms; callers = rest_of v.callers; mine = v.mine; last = v.last; steps = v.steps }
 
@@ -65,7 +68,3 @@ first_alone v = record { live = v.live; terms = v.terms; callers = head_of v.cal
 -- two views in one
 abbrev pub together : View → View → View
 together v w = record { live = v.live; terms = v.terms; callers = v.callers ++ w.callers; mine = v.mine ++ w.mine; last = v.last; steps = v.steps }
-
--- the entry of a change under these terms
-abbrev pub made : Terms → ℕ → ℕ → ℕ → Op → ℕ → Entry
-made terms caller word number op old = record { caller = caller; word = word; number = number; op = op; old = old; new = left_by terms.role terms.limit op number old }

@@ -3,7 +3,7 @@
 ghost use Rattle.std.specs.Prelude.{◌≡◌, ◌<◌, length, slice_index};
 ghost use Rattle.std.specs.Slots.{slots_items, slots_len, IsFull};
 
-use crate::entry::Note;
+use crate::change::Note;
 use std::alloc::Global;
 use std::marker::Model;
 

@@ -4,7 +4,7 @@ ghost use Rattle.std.specs.Prelude.{◌≡◌, ◌<◌, [], length, IfOk};
 ghost use Rattle.ticket_table.specs.Views.{stock};
 ghost use Rattle.ticket_table.specs.Passes.{fresh_from};
 
-use crate::entry::{Note, Setting, View};
+use crate::change::{Note, Setting, View};
 use crate::pass::Pass;
 use crate::rule::{OneCaller, Tickets};
 use atomic_table::{Seat, Shared};

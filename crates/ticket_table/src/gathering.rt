@@ -4,7 +4,7 @@ ghost use Rattle.std.specs.Prelude.{◌≡◌, ◌<◌, length};
 ghost use Rattle.ticket_table.specs.Passes.{ArePasses};
 ghost use Rattle.ticket_table.specs.Gathered.{HasFrom};
 
-use crate::entry::{Note, Setting, View};
+use crate::change::{Note, Setting, View};
 use crate::pass::Pass;
 use crate::rule::{BothCallers, Tickets};
 use atomic_table::{Seat, Shared};

@@ -1,9 +1,9 @@
 //! Words that many threads change one at a time, each change with its number: a ticket that is drawn or served.
 #![tactic(auto)]
 
+mod change;
 mod closed;
 mod dealing;
-mod entry;
 mod gathering;
 pub mod laws;
 mod pass;
@@ -15,8 +15,8 @@ mod tests;
 mod tickets;
 mod word;
 
+pub use change::{Change, Role, Terms};
 pub use closed::Closed;
-pub use entry::{Entry, Role, Terms};
 pub use pass::Pass;
 pub use served::Served;
 pub use tickets::TicketTable;

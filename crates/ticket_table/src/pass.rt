@@ -3,11 +3,11 @@
 ghost use Rattle.std.specs.Prelude.{◌≡◌};
 ghost use Rattle.ticket_table.specs.Passes.{is_spent};
 
-use crate::entry::{Note, View};
+use crate::change::{Note, View};
 use atomic_table::Seat;
 use std::marker::Model;
 
-/// A caller's token at one table. It knows the caller's entries, which proofs alone see.
+/// A caller's token at one table. It knows the caller's changes, which proofs alone see.
 #[derive(Drop)]
 pub struct Pass {
     pub(crate) seat: Seat<Note, View>,
@@ -27,7 +27,7 @@ impl Model for Pass {
       table = pass.seat.table_id;
       terms = pass.seat.me.0.terms;
       caller = pass.caller;
-      entries = pass.seat.me.0.mine;
+      changes = pass.seat.me.0.mine;
       last = pass.seat.me.0.last;
       steps = pass.seat.me.0.steps;
     } };

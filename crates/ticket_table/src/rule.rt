@@ -1,6 +1,6 @@
 //! The rule of the table, and what each kind of step tells its caller.
 
-use crate::entry::{Note, Setting, View};
+use crate::change::{Note, Setting, View};
 use atomic_table::{Join, Play, Split, TableRule};
 
 /// The rule: one history leaves the words, and has what each seat knows.
@@ -31,6 +31,15 @@ impl Play<Note, View> for Exchanges {
     ghost use Rattle.ticket_table.specs.Rule.{Exchanged};
 
     ghost then = { Exchanged };
+}
+
+/// A count of a read, which leaves the payload.
+pub struct Counts;
+
+impl Play<Note, View> for Counts {
+    ghost use Rattle.ticket_table.specs.Rule.{Counted};
+
+    ghost then = { Counted };
 }
 
 /// The first of several callers gets a seat of its own.

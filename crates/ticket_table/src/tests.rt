@@ -1,5 +1,5 @@
 ghost use Rattle.std.specs.Prelude.{◌≡◌, length, IfOk};
-ghost use Rattle.ticket_table.specs.declared.entry.Role.TheVariants.{Draw};
+ghost use Rattle.ticket_table.specs.declared.change.Role.TheVariants.{Draw};
 ghost use Rattle.ticket_table.specs.Passes.{IsPassOf};
 
 use crate::{Pass, Role, Served, TicketTable, number, payload};

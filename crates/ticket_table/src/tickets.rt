@@ -1,14 +1,13 @@
 //! Words that callers in many threads change by number.
 
-ghost use Rattle.std.specs.Prelude.{◌≡◌, ◌≢◌, ◌+◌, ◌<◌, ◌≤◌, false, List, length, nat_le, IfOk};
-ghost use Rattle.ticket_table.specs.declared.entry.Role.TheVariants.{Draw, Serve};
-ghost use Rattle.ticket_table.specs.declared.entry.Entry.{Entry};
-ghost use Rattle.ticket_table.specs.Passes.{IsPassOf, is_spent, entry_made, with_entry, LookedAt, IfDone, IfNotYet, AreFresh, ArePasses, Closes};
-ghost use Rattle.ticket_table.specs.Rule.{Follows};
+ghost use Rattle.std.specs.Prelude.{◌≡◌, ◌+◌, ◌<◌, ◌≤◌, length, IfOk};
+ghost use Rattle.ticket_table.specs.declared.change.Role.TheVariants.{Draw, Serve};
+ghost use Rattle.ticket_table.specs.Passes.{AreFresh};
+ghost use Rattle.ticket_table.specs.Calls.{MayDraw, MayServe, MayClose, HasDrawn, HasServed, IsClosed};
 
+use crate::change::{Note, Role, Setting, Terms, View};
 use crate::closed::Closed;
 use crate::dealing::{deal, widened};
-use crate::entry::{Note, Role, Setting, Terms, View};
 use crate::gathering::gather;
 use crate::pass::Pass;
 use crate::rule::Tickets;
@@ -29,8 +28,8 @@ pub struct TicketTable {
 }
 
 impl Model for TicketTable {
-    ghost use Rattle.ticket_table.specs.Passes.{TableSeen, IsTable};
-    ghost use Rattle.ticket_table.specs.Rule.{basis_of};
+    ghost use Rattle.ticket_table.specs.Passes.{TableSeen};
+    ghost use Rattle.ticket_table.specs.Rule.{basis_of, IsTable};
 
     ghost Value = { TableSeen };
 
@@ -71,17 +70,11 @@ impl TicketTable {
 
     /// Draws the word's next number and changes the word by the operation, in one step: `old` is the payload that the operation
     /// found. Where the number is at or above the limit it is spent, and the payload stays.
-    /// An exchange that is lost to another caller is tried again.
+    /// A read is a single step. For another operation, an exchange that is lost to another caller is tried again.
     pub fn take(&self, pass: &mut Pass, word: u32, op: Op) -> Taken
         requires role { self.now.basis.terms.role ≡ Draw }
-        requires pass { IsPassOf self.now pass.old }
-        requires word { word < length self.now.basis.first }
-        requires unspent { is_spent pass.old ≡ false }
-        ensures entry { pass.new ≡ with_entry pass.new.steps pass.old (entry_made pass.old word result.number op result.old) }
-        ensures follows { Follows pass.old.entries (entry_made pass.old word result.number op result.old) }
-        ensures spent { result.spent ≡ nat_le self.now.basis.terms.limit result.number }
-        ensures pass { IsPassOf self.now pass.new × (pass.new.caller ≡ pass.old.caller) × (is_spent pass.new ≡ result.spent) }
-        ensures below { result.number < self.now.basis.terms.limit + self.now.basis.terms.callers }
+        requires may { MayDraw self.now pass.old word }
+        ensures { HasDrawn self.now pass.old pass.new word op result }
     {
         let note = Note {
             caller: pass.caller,
@@ -97,12 +90,8 @@ impl TicketTable {
     /// `NotYet` where one step of this call found another number, which it gives: then nothing changed.
     pub fn serve(&self, pass: &mut Pass, word: u32, number: u32, op: Op) -> Served
         requires role { self.now.basis.terms.role ≡ Serve }
-        requires pass { IsPassOf self.now pass.old }
-        requires word { word < length self.now.basis.first }
-        requires number { number < self.now.basis.terms.limit + self.now.basis.terms.callers }
-        ensures done { IfDone result (λ old. (pass.new ≡ with_entry pass.new.steps pass.old (entry_made pass.old word number op old)) × Follows pass.old.entries (entry_made pass.old word number op old)) }
-        ensures not_yet { IfNotYet result (λ seen. (seen ≢ number) × LookedAt pass.old pass.new word seen) }
-        ensures pass { IsPassOf self.now pass.new × (pass.new.caller ≡ pass.old.caller) }
+        requires may { MayServe self.now pass.old word number }
+        ensures { HasServed self.now pass.old pass.new word number op result }
     {
         let note = Note {
             caller: pass.caller,
@@ -113,8 +102,8 @@ impl TicketTable {
 
     /// Ends the table, once all callers have given their passes back: its words, and a history of all that they did.
     pub fn close(self, passes: Vec<Pass>) -> Closed
-        requires passes { ArePasses self.table passes.items × (length passes.items ≡ self.basis.terms.callers) }
-        ensures { (entries : List Entry) × Closes self.basis passes.items result entries }
+        requires { MayClose self passes.items }
+        ensures { IsClosed self.basis passes.items result }
     {
         let TicketTable { table, limit: _ } = self;
         let seat = gather(&table.shared, passes);

@@ -3,8 +3,8 @@
 ghost use Rattle.std.specs.Prelude.{◌≡◌, ◌+◌, ◌*◌, ◌^◌, ◌<◌};
 ghost use Rattle.ticket_table.specs.Words.{number_of, payload_of, word_of};
 
-// How many payloads there are.
-const HALF: u64 = 4294967296;
+/// How many payloads there are, and so what a word grows by with its count.
+pub(crate) const HALF: u64 = 4294967296;
 
 /// The number that the word's next change has: how many it has had.
 pub fn number(word: u64) -> u32

@@ -1,11 +1,10 @@
 //! The words of an image, shared by the cores of a run.
 
-ghost use Rattle.std.specs.Prelude.{◌≡◌, ◌+◌, ◌<◌, ◌≤◌, false, List, length, nat_le, IfOk};
+ghost use Rattle.std.specs.Prelude.{◌≡◌, ◌+◌, ◌<◌, ◌≤◌, length, IfOk};
 ghost use Rattle.elf_image.specs.Layout.{words_of};
-ghost use Rattle.ticket_table.specs.declared.entry.Role.TheVariants.{Draw};
-ghost use Rattle.ticket_table.specs.declared.entry.Entry.{Entry};
-ghost use Rattle.ticket_table.specs.Passes.{IsPassOf, is_spent, entry_made, with_entry, AreFresh, ArePasses, Closes};
-ghost use Rattle.ticket_table.specs.Rule.{Follows};
+ghost use Rattle.ticket_table.specs.declared.change.Role.TheVariants.{Draw};
+ghost use Rattle.ticket_table.specs.Passes.{AreFresh};
+ghost use Rattle.ticket_table.specs.Calls.{MayDraw, MayClose, HasDrawn, IsClosed};
 ghost use Rattle.word_stores.specs.FirstWords.{first_words};
 
 use crate::payloads::first_payloads;
@@ -24,7 +23,7 @@ pub struct SharedMemory {
 
 impl Model for SharedMemory {
     ghost use Rattle.std.specs.Prelude.{◌≡◌};
-    ghost use Rattle.ticket_table.specs.declared.entry.Role.TheVariants.{Draw};
+    ghost use Rattle.ticket_table.specs.declared.change.Role.TheVariants.{Draw};
     ghost use Rattle.ticket_table.specs.Passes.{TableSeen};
 
     ghost Value = { TableSeen };
@@ -63,22 +62,16 @@ impl SharedMemory {
 
     /// One access to a word: draws its next number and changes it by the operation, in one step.
     pub fn access(&self, pass: &mut Pass, word: u32, op: Op) -> Taken
-        requires pass { IsPassOf self.now pass.old }
-        requires word { word < length self.now.basis.first }
-        requires unspent { is_spent pass.old ≡ false }
-        ensures entry { pass.new ≡ with_entry pass.new.steps pass.old (entry_made pass.old word result.number op result.old) }
-        ensures follows { Follows pass.old.entries (entry_made pass.old word result.number op result.old) }
-        ensures spent { result.spent ≡ nat_le self.now.basis.terms.limit result.number }
-        ensures pass { IsPassOf self.now pass.new × (pass.new.caller ≡ pass.old.caller) × (is_spent pass.new ≡ result.spent) }
-        ensures below { result.number < self.now.basis.terms.limit + self.now.basis.terms.callers }
+        requires { MayDraw self.now pass.old word }
+        ensures { HasDrawn self.now pass.old pass.new word op result }
     {
         self.words.take(pass, word, op)
     }
 
     /// Ends the memory, once all callers have given their passes back: its words, and a history of all accesses.
     pub fn close(self, passes: Vec<Pass>) -> Closed
-        requires passes { ArePasses self.table passes.items × (length passes.items ≡ self.basis.terms.callers) }
-        ensures { (entries : List Entry) × Closes self.basis passes.items result entries }
+        requires { MayClose self passes.items }
+        ensures { IsClosed self.basis passes.items result }
     {
         let SharedMemory { words } = self;
         words.close(passes)

@@ -1,10 +1,9 @@
 //! The tags of a run's words, shared by the tag actors.
 
-ghost use Rattle.std.specs.Prelude.{◌≡◌, ◌≢◌, ◌+◌, ◌<◌, ◌≤◌, List, length, replicate, IfOk};
-ghost use Rattle.ticket_table.specs.declared.entry.Role.TheVariants.{Serve};
-ghost use Rattle.ticket_table.specs.declared.entry.Entry.{Entry};
-ghost use Rattle.ticket_table.specs.Passes.{IsPassOf, entry_made, with_entry, LookedAt, IfDone, IfNotYet, AreFresh, ArePasses, Closes};
-ghost use Rattle.ticket_table.specs.Rule.{Follows};
+ghost use Rattle.std.specs.Prelude.{◌≡◌, ◌+◌, ◌<◌, ◌≤◌, replicate, IfOk};
+ghost use Rattle.ticket_table.specs.declared.change.Role.TheVariants.{Serve};
+ghost use Rattle.ticket_table.specs.Passes.{AreFresh};
+ghost use Rattle.ticket_table.specs.Calls.{MayServe, MayClose, HasServed, IsClosed};
 
 use crate::payloads::zeros;
 use bounded_list::NoMemory;
@@ -21,7 +20,7 @@ pub struct TagMemory {
 
 impl Model for TagMemory {
     ghost use Rattle.std.specs.Prelude.{◌≡◌};
-    ghost use Rattle.ticket_table.specs.declared.entry.Role.TheVariants.{Serve};
+    ghost use Rattle.ticket_table.specs.declared.change.Role.TheVariants.{Serve};
     ghost use Rattle.ticket_table.specs.Passes.{TableSeen};
 
     ghost Value = { TableSeen };
@@ -59,20 +58,16 @@ impl TagMemory {
     /// Changes a word by the operation if its number is this one, in one step: `Done` with the tag that the operation found.
     /// `NotYet` where one step of this call found another number, which it gives: then nothing changed.
     pub fn serve(&self, pass: &mut Pass, word: u32, number: u32, op: Op) -> Served
-        requires pass { IsPassOf self.now pass.old }
-        requires word { word < length self.now.basis.first }
-        requires number { number < self.now.basis.terms.limit + self.now.basis.terms.callers }
-        ensures done { IfDone result (λ old. (pass.new ≡ with_entry pass.new.steps pass.old (entry_made pass.old word number op old)) × Follows pass.old.entries (entry_made pass.old word number op old)) }
-        ensures not_yet { IfNotYet result (λ seen. (seen ≢ number) × LookedAt pass.old pass.new word seen) }
-        ensures pass { IsPassOf self.now pass.new × (pass.new.caller ≡ pass.old.caller) }
+        requires { MayServe self.now pass.old word number }
+        ensures { HasServed self.now pass.old pass.new word number op result }
     {
         self.words.serve(pass, word, number, op)
     }
 
     /// Ends the memory, once all callers have given their passes back: its words, and a history of all changes.
     pub fn close(self, passes: Vec<Pass>) -> Closed
-        requires passes { ArePasses self.table passes.items × (length passes.items ≡ self.basis.terms.callers) }
-        ensures { (entries : List Entry) × Closes self.basis passes.items result entries }
+        requires { MayClose self passes.items }
+        ensures { IsClosed self.basis passes.items result }
     {
         let TagMemory { words } = self;
         words.close(passes)

@@ -11,7 +11,7 @@ loop-pass-init c =
     let last = c.in-Some.last in
     let ps = c.args.passes.items in
     let so_far = starts_so ps c.pop.new.self.items last c.last.inside.seat.me.0 c.in-Some.ensures.items
-    (subst (λ (p : PassSeen). IsAlone c.last.inside.seat.me.0 p.caller) c.last.view_is c.last.invariant.1) (ap (λ p. p.entries) c.last.view_is) in
+    (subst (λ (p : PassSeen). IsAlone c.last.inside.seat.me.0 p.caller) c.last.view_is c.last.invariant.1) (ap (λ p. p.changes) c.last.view_is) in
     record { table = ap (λ p. p.table) c.last.view_is ∙ c.requires.passes.0.same _ last (last_stands ps c.pop.new.self.items last c.in-Some.ensures.items); so_far = so_far }
 
 pub join_seat-requires : goal.join_seat-requires
@@ -22,7 +22,7 @@ join_seat-requires c =
       ap (λ p. p.table) c.pass.view_is ∙ c.requires.passes.0.same _ pass here,
       c.pass.invariant.0,
       c.requires.place,
-      joins (basis_of c.args.shared.now.key) c.loop-pass.seat.id c.loop-pass.seat.me.0 c.pass.inside.seat.id c.pass.inside.seat.me.0,
+      joins (basis_of c.args.shared.now.key) c.loop-pass.seat.id c.loop-pass.seat.me.0 c.pass.inside.seat.id c.pass.inside.seat.me.0 ((c.loop-pass.invariant.so_far).behind).live,
     )
 
 pub loop-pass-preserved : goal.loop-pass-preserved
@@ -34,5 +34,5 @@ loop-pass-preserved c =
       table = joined.0 ∙ c.loop-pass.invariant.table;
       so_far = joins_so c.args.shared.now.table_id c.args.passes.items c.loop-pass.passes.items c.pop-in-loop-pass.new.self.items pass c.loop-pass.seat.me.0 w c.join_seat.new.seat.me.0
           c.requires.passes.0 c.loop-pass.invariant.so_far c.in-Some-pop.ensures.items
-          (subst (λ (p : PassSeen). IsAlone w p.caller) c.pass.view_is c.pass.invariant.1) (ap (λ p. p.entries) c.pass.view_is) (ap (λ m. m.0) joined.2);
+          (subst (λ (p : PassSeen). IsAlone w p.caller) c.pass.view_is c.pass.invariant.1) (ap (λ p. p.changes) c.pass.view_is) (ap (λ m. m.0) joined.2);
     }

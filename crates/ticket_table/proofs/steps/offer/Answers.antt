@@ -1,5 +1,5 @@
 use Rattle.std.proofs.Common.{◌≡◌, ℕ, ◌+◌, ◌<◌, refl, sym, ap, subst, ◌∙◌, arith}
-use Rattle.ticket_table.specs.declared.entry.Role.TheVariants.{Serve}
+use Rattle.ticket_table.specs.declared.change.Role.TheVariants.{Serve}
 use Rattle.ticket_table.specs.Words.{number_of, payload_of, word_of}
 use Rattle.ticket_table.specs.Rule.{basis_of}
 use Rattle.ticket_table.proofs.Asking.{left_alike, exchanges_after_look, serves_on, look_as_is}

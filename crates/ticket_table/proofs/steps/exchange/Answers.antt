@@ -1,10 +1,10 @@
 use Rattle.std.proofs.Common.{◌≡◌, ℕ, ◌+◌, ◌<◌, sym, ap, subst, ◌∙◌, arith}
-use Rattle.ticket_table.specs.declared.entry.Role.TheVariants.{Draw}
+use Rattle.ticket_table.specs.declared.change.Role.TheVariants.{Draw}
 use Rattle.ticket_table.specs.Words.{number_of, payload_of, word_of}
 use Rattle.ticket_table.specs.Rule.{basis_of}
 use Rattle.ticket_table.proofs.Asking.{left_alike, exchanges_after_look}
 use Rattle.ticket_table.proofs.Keeps.{looks}
-use Rattle.ticket_table.proofs.steps.draw.Goals as goal
+use Rattle.ticket_table.proofs.steps.exchange.Goals as goal
 
 pub load-seen-requires : goal.load-seen-requires
 load-seen-requires c =

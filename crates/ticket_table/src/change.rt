@@ -28,8 +28,8 @@ pub struct Setting {
 }
 
 /// One change of a word: who made it, which number it was, and the payload before and after.
-/// Proofs alone speak of entries.
-pub struct Entry {
+/// Proofs alone speak of changes.
+pub struct Change {
     pub caller: u8,
     pub word: u32,
     pub number: u32,
@@ -45,8 +45,8 @@ pub struct View {
     pub terms: Terms,
     /// The callers that it stands for.
     pub callers: LinkedList<u8>,
-    /// Their entries, in order.
-    pub mine: LinkedList<Entry>,
+    /// Their changes, in order.
+    pub mine: LinkedList<Change>,
     /// The word that was read last, and what it was.
     pub last: Option<(u32, u64)>,
     /// How many steps it has made on words.
