@@ -1,16 +1,24 @@
-//! Merges logs of a size that the words give, and prints the length and a checksum of the order.
+//! Merges or walks logs of a size that the words give, and prints the length and a checksum of the order.
 //!
-//! The words are the count of cores, the entries of each and the count of memory words.
+//! The words are `merge` or `walk`, the count of cores, the entries of each and the count of memory words.
 #![tactic(auto)]
 
 ghost use Rattle.std.specs.Prelude.{◌≤◌, length, IsTrue};
-ghost use Rattle.order_core.specs.Logs.{logs_of, entry_count};
+ghost use Rattle.order_core.specs.Logs.{logs_of, entry_count, AllTouchBelow};
+ghost use Rattle.order_core.specs.WalkCalls.{IsWalking};
 
 use anyhow::{Context, Result, anyhow, ensure};
-use order_core::{Access, CoreLog, Entry, MergeRoom, all_touch_below, merge};
+use order_core::{Access, CoreLog, Entry, MergeRoom, Walk, all_touch_below, merge};
 use std::alloc::Global;
 use std::env;
 use std::rt::Env;
+
+/// How the order is made.
+#[derive(Clone, Copy)]
+enum Way {
+    Merge,
+    Walk,
+}
 
 /// The size of the logs.
 #[derive(Clone, Copy)]
@@ -25,14 +33,26 @@ fn number(words: &[String], place: usize) -> Result<u32> {
     word.as_str().parse::<u32>().context("this is no number")
 }
 
-fn read_size<R: Env + AllocGlobal>(rt: &R) -> Result<Size> {
+fn read_way(words: &[String]) -> Result<Way> {
+    match words.get(1).context("a word is missing")?.as_str() {
+        "merge" => Ok(Way::Merge),
+        "walk" => Ok(Way::Walk),
+        _ => Err(anyhow!("the first word is merge or walk")),
+    }
+}
+
+fn read_words<R: Env + AllocGlobal>(rt: &R) -> Result<(Way, Size)> {
     let words: Vec<String> = env::args(rt)?.collect(rt.alloc())?;
-    ensure!(words.len() == 4, "the words are: CORES ENTRIES WORDS");
-    Ok(Size {
-        cores: number(&words, 1)?,
-        entries: number(&words, 2)?,
-        words: number(&words, 3)?,
-    })
+    ensure!(
+        words.len() == 5,
+        "the words are: merge|walk CORES ENTRIES WORDS"
+    );
+    let size = Size {
+        cores: number(&words, 2)?,
+        entries: number(&words, 3)?,
+        words: number(&words, 4)?,
+    };
+    Ok((read_way(&words)?, size))
 }
 
 /// An entry that follows all that were made before: each fourth has no access, and the others go round the words.
@@ -85,35 +105,88 @@ fn entries_within(logs: &[CoreLog], most: u32) -> bool
     total <= u64::from(most)
 }
 
-fn checksum(order: &[u8]) -> u32 {
-    let mut sum = 0u32;
-    for core in order {
-        sum = sum.wrapping_mul(31).wrapping_add(u32::from(*core));
+/// What is told of an order: its length, and a sum that depends on each core and its place.
+#[derive(Clone, Copy)]
+struct Sum {
+    length: u32,
+    checksum: u32,
+}
+
+impl Sum {
+    fn of_nothing() -> Sum {
+        Sum {
+            length: 0,
+            checksum: 0,
+        }
+    }
+
+    fn with(self, core: u8) -> Sum {
+        Sum {
+            length: self.length.wrapping_add(1),
+            checksum: self.checksum.wrapping_mul(31).wrapping_add(u32::from(core)),
+        }
+    }
+}
+
+/// The order that `merge` gives of logs that hold so many entries at most.
+fn sum_merged(alloc: Global, logs: &[CoreLog], words: u32, units: u32) -> Result<Sum>
+    requires cores { length logs.now ≤ 32 }
+    requires words { AllTouchBelow words (logs_of logs.now) }
+    requires units { entry_count (logs_of logs.now) ≤ units }
+{
+    let mut room = MergeRoom::create(alloc, words, units).map_err(|_| anyhow!("no memory"))?;
+    merge(logs, &mut room);
+    let mut sum = Sum::of_nothing();
+    for core in room.order().as_slice() {
+        sum = sum.with(*core);
+    }
+    Ok(sum)
+}
+
+/// The order that a walk gives, as far as so many cores.
+fn sum_walk(mut walk: Walk, logs: &[CoreLog], units: u32) -> Sum
+    requires { IsWalking walk (logs_of logs.now) }
+{
+    let mut sum = Sum::of_nothing();
+    'cores: for _ in 0..units {
+        let Some(core) = walk.next(logs) else {
+            return sum;
+        };
+        sum = sum.with(core);
     }
     sum
 }
 
+/// The order that a walk gives of logs that hold so many entries at most.
+fn sum_walked(alloc: Global, logs: &[CoreLog], words: u32, units: u32) -> Result<Sum>
+    requires cores { length logs.now ≤ 32 }
+    requires words { AllTouchBelow words (logs_of logs.now) }
+{
+    let Ok(walk) = Walk::create(alloc, words, logs.len() as u8) else {
+        return Err(anyhow!("no memory"));
+    };
+    Ok(sum_walk(walk, logs, units))
+}
+
 fn run<R: Env + AllocGlobal + Print>(rt: &R) -> Result<()> {
-    let size = read_size(rt)?;
+    let (way, size) = read_words(rt)?;
     let units = size
         .cores
         .checked_mul(size.entries)
         .context("too many entries")?;
     let logs = make_logs(rt.alloc(), size)?;
-    let mut room = MergeRoom::create(rt.alloc(), size.words, units).map_err(|_| anyhow!(
-        "no memory"
-    ))?;
     ensure!(logs.len() <= 32, "too many cores");
     ensure!(entries_within(&logs, units), "too many entries");
     ensure!(
         all_touch_below(&logs, size.words),
         "a word is past the last"
     );
-    merge(&logs, &mut room);
-    let order = room.order().as_slice();
-    let length = order.len();
-    let sum = checksum(order);
-    println!(rt; "entries {length} checksum {sum}")?;
+    let sum = match way {
+        Way::Merge => sum_merged(rt.alloc(), &logs, size.words, units)?,
+        Way::Walk => sum_walked(rt.alloc(), &logs, size.words, units)?,
+    };
+    let Sum { length, checksum } = sum;
+    println!(rt; "entries {length} checksum {checksum}")?;
     Ok(())
 }
 

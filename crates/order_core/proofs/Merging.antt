@@ -9,47 +9,47 @@ use Rattle.order_core.specs.CanonicalMerge.{is_ready, least_ready, left_after}
 use Rattle.order_core.specs.Places.{left_at, reached_at}
 
 -- the log of a core among lists
-pub log_of-item : (lists : List (Bounded Entry)) (core : ℕ) (log : Bounded Entry) → core < length lists → log ≡ get_or lists core log → log_of (logs_of lists) core ≡ log.items
-log_of-item [] core log h e = absurd (omega arith)
-log_of-item (x ∷ xs) zero log h e = ap (λ (l : Bounded Entry). l.items) (sym e)
-log_of-item (x ∷ xs) (suc core) log h e = log_of-item xs core log (omega arith) e
+pub log_of_item : (lists : List (Bounded Entry)) (core : ℕ) (log : Bounded Entry) → core < length lists → log ≡ get_or lists core log → log_of (logs_of lists) core ≡ log.items
+log_of_item [] core log h e = absurd (omega arith)
+log_of_item (x ∷ xs) zero log h e = ap (λ (l : Bounded Entry). l.items) (sym e)
+log_of_item (x ∷ xs) (suc core) log h e = log_of_item xs core log (omega arith) e
 
 -- its accesses are to words below
-pub touches_below-item : (words : ℕ) (lists : List (Bounded Entry)) (core : ℕ) (log : Bounded Entry) → AllTouchBelow words (logs_of lists) → core < length lists → log ≡ get_or lists core log → All (TouchesBelow words) log.items
-touches_below-item words [] core log w h e = absurd (omega arith)
-touches_below-item words (x ∷ xs) zero log w h e =
+pub touches_below_item : (words : ℕ) (lists : List (Bounded Entry)) (core : ℕ) (log : Bounded Entry) → AllTouchBelow words (logs_of lists) → core < length lists → log ≡ get_or lists core log → All (TouchesBelow words) log.items
+touches_below_item words [] core log w h e = absurd (omega arith)
+touches_below_item words (x ∷ xs) zero log w h e =
     let P : Bounded Entry → Type 0 = λ l. All (TouchesBelow words) l.items in
     subst P (sym e) (w 0 [] (omega arith))
-touches_below-item words (x ∷ xs) (suc core) log w h e = touches_below-item words xs core log (λ k d lt. w (suc k) d (omega arith)) (omega arith) e
+touches_below_item words (x ∷ xs) (suc core) log w h e = touches_below_item words xs core log (λ k d lt. w (suc k) d (omega arith)) (omega arith) e
 
 -- whether the core may come next, read from the lists
-pub is_ready-item : (lists : List (Bounded Entry)) (places counts : List ℕ) (core : ℕ) (log : Bounded Entry) (entries : List Entry) → core < length lists → log ≡ get_or lists core log → entries ≡ log.items → is_ready (reached_at counts) (left_at (logs_of lists) places core) ≡ is_ready (reached_at counts) (drop (get_or places core 0) entries)
-is_ready-item lists places counts core log entries h e f =
-    ap (λ (log : List Entry). is_ready (reached_at counts) (drop (get_or places core 0) log)) (log_of-item lists core log h e ∙ sym f)
+pub is_ready_item : (lists : List (Bounded Entry)) (places counts : List ℕ) (core : ℕ) (log : Bounded Entry) (entries : List Entry) → core < length lists → log ≡ get_or lists core log → entries ≡ log.items → is_ready (reached_at counts) (left_at (logs_of lists) places core) ≡ is_ready (reached_at counts) (drop (get_or places core 0) entries)
+is_ready_item lists places counts core log entries h e f =
+    ap (λ (log : List Entry). is_ready (reached_at counts) (drop (get_or places core 0) log)) (log_of_item lists core log h e ∙ sym f)
 
 -- no core is ready up to here
-pub least_ready-more : (left : ℕ → List Entry) (reached : ℕ → ℕ) (core : ℕ) → least_ready left reached core ≡ None → is_ready reached (left core) ≡ false → least_ready left reached (core + 1) ≡ None
-least_ready-more left reached core e f = rw (add-one, e, f) refl
+pub least_ready_more : (left : ℕ → List Entry) (reached : ℕ → ℕ) (core : ℕ) → least_ready left reached core ≡ None → is_ready reached (left core) ≡ false → least_ready left reached (core + 1) ≡ None
+least_ready_more left reached core e f = rw (add-one, e, f) refl
 
 -- a core found ready, with no lesser one ready
-pub least_ready-found : (left : ℕ → List Entry) (reached : ℕ → ℕ) (core count : ℕ) → least_ready left reached core ≡ None → is_ready reached (left core) ≡ true → core < count → least_ready left reached count ≡ Some core
-least_ready-found left reached core zero e f h = absurd (omega arith)
-least_ready-found left reached core (suc count) e f h =
+pub least_ready_found : (left : ℕ → List Entry) (reached : ℕ → ℕ) (core count : ℕ) → least_ready left reached core ≡ None → is_ready reached (left core) ≡ true → core < count → least_ready left reached count ≡ Some core
+least_ready_found left reached core zero e f h = absurd (omega arith)
+least_ready_found left reached core (suc count) e f h =
     elim (eq-or-lt_of_le (le_of_suc-le-suc h)) [
       | inl same ↦ rw (← same, e, f) refl
-      | inr less ↦ rw (least_ready-found left reached core count e f less) refl
+      | inr less ↦ rw (least_ready_found left reached core count e f less) refl
     ]
 
 -- a core that is ready has an entry at its place
-pub place-below : (reached : ℕ → ℕ) (place : ℕ) (log : List Entry) → is_ready reached (drop place log) ≡ true → place < length log
-place-below reached zero [] e = cc
-place-below reached zero (x ∷ xs) e = omega arith
-place-below reached (suc place) [] e = cc
-place-below reached (suc place) (x ∷ xs) e = let below = place-below reached place xs e in omega arith
+pub place_below : (reached : ℕ → ℕ) (place : ℕ) (log : List Entry) → is_ready reached (drop place log) ≡ true → place < length log
+place_below reached zero [] e = cc
+place_below reached zero (x ∷ xs) e = omega arith
+place_below reached (suc place) [] e = cc
+place_below reached (suc place) (x ∷ xs) e = let below = place_below reached place xs e in omega arith
 
 -- one entry of a core is given
-pub left_at-set : (logs : List (List Entry)) (places : List ℕ) (core : ℕ) → core < length places → left_at logs (set places core (get_or places core 0 + 1)) ≡ left_after (left_at logs places) core
-left_at-set logs places core h = fun_ext (λ other. at other (eqb_tells other core))
+pub left_at_set : (logs : List (List Entry)) (places : List ℕ) (core : ℕ) → core < length places → left_at logs (set places core (get_or places core 0 + 1)) ≡ left_after (left_at logs places) core
+left_at_set logs places core h = fun_ext (λ other. at other (eqb_tells other core))
   where
     at : (other : ℕ) → ((eqb other core ≡ true) × (other ≡ core)) ⊎ ((eqb other core ≡ false) × (other ≢ core))
         → left_at logs (set places core (get_or places core 0 + 1)) other ≡ left_after (left_at logs places) core other
@@ -57,22 +57,22 @@ left_at-set logs places core h = fun_ext (λ other. at other (eqb_tells other co
     at other (inr apart) = rw (apart.0, get_or-set_other places core other (get_or places core 0 + 1) 0 apart.1) refl
 
 -- the next entry of a log, at its place
-pub drop-entry : (log : List Entry) (place : ℕ) (entry : Entry) → place < length log → entry ≡ get_or log place entry → drop place log ≡ entry ∷ drop 1 (drop place log)
-drop-entry [] place entry h e = absurd (omega arith)
-drop-entry (x ∷ xs) zero entry h e = ap (λ (y : Entry). y ∷ xs) (sym e)
-drop-entry (x ∷ xs) (suc place) entry h e = drop-entry xs place entry (omega arith) e
+pub drop_entry : (log : List Entry) (place : ℕ) (entry : Entry) → place < length log → entry ≡ get_or log place entry → drop place log ≡ entry ∷ drop 1 (drop place log)
+drop_entry [] place entry h e = absurd (omega arith)
+drop_entry (x ∷ xs) zero entry h e = ap (λ (y : Entry). y ∷ xs) (sym e)
+drop_entry (x ∷ xs) (suc place) entry h e = drop_entry xs place entry (omega arith) e
 
 -- it touches what the log's entries touch
-pub touches-entry : (words : ℕ) (log : List Entry) (place : ℕ) (entry : Entry) → All (TouchesBelow words) log → place < length log → entry ≡ get_or log place entry → TouchesBelow words entry
-touches-entry words log place entry w h e = let P : Entry → Type 0 = TouchesBelow words in subst P (sym e) (w place entry h)
+pub touches_entry : (words : ℕ) (log : List Entry) (place : ℕ) (entry : Entry) → All (TouchesBelow words) log → place < length log → entry ≡ get_or log place entry → TouchesBelow words entry
+touches_entry words log place entry w h e = let P : Entry → Type 0 = TouchesBelow words in subst P (sym e) (w place entry h)
 
 -- the accesses of all lists, and those of the logs that they hold
-pub all_touch_below-from_lists : (words : ℕ) (lists : List (Bounded Entry)) → All (λ list. All (TouchesBelow words) list.items) lists → AllTouchBelow words (logs_of lists)
-all_touch_below-from_lists words [] h k d lt = absurd (omega arith)
-all_touch_below-from_lists words (x ∷ xs) h zero d lt = h zero x (omega arith)
-all_touch_below-from_lists words (x ∷ xs) h (suc k) d lt = all_touch_below-from_lists words xs (λ j e m. h (suc j) e (omega arith)) k d (omega arith)
+pub all_touch_below_from_lists : (words : ℕ) (lists : List (Bounded Entry)) → All (λ list. All (TouchesBelow words) list.items) lists → AllTouchBelow words (logs_of lists)
+all_touch_below_from_lists words [] h k d lt = absurd (omega arith)
+all_touch_below_from_lists words (x ∷ xs) h zero d lt = h zero x (omega arith)
+all_touch_below_from_lists words (x ∷ xs) h (suc k) d lt = all_touch_below_from_lists words xs (λ j e m. h (suc j) e (omega arith)) k d (omega arith)
 
-pub all_touch_below-to_lists : (words : ℕ) (lists : List (Bounded Entry)) → AllTouchBelow words (logs_of lists) → All (λ list. All (TouchesBelow words) list.items) lists
-all_touch_below-to_lists words [] h k d lt = absurd (omega arith)
-all_touch_below-to_lists words (x ∷ xs) h zero d lt = h zero [] (omega arith)
-all_touch_below-to_lists words (x ∷ xs) h (suc k) d lt = all_touch_below-to_lists words xs (λ j e m. h (suc j) e (omega arith)) k d (omega arith)
+pub all_touch_below_to_lists : (words : ℕ) (lists : List (Bounded Entry)) → AllTouchBelow words (logs_of lists) → All (λ list. All (TouchesBelow words) list.items) lists
+all_touch_below_to_lists words [] h k d lt = absurd (omega arith)
+all_touch_below_to_lists words (x ∷ xs) h zero d lt = h zero [] (omega arith)
+all_touch_below_to_lists words (x ∷ xs) h (suc k) d lt = all_touch_below_to_lists words xs (λ j e m. h (suc j) e (omega arith)) k d (omega arith)

@@ -18,7 +18,7 @@ use Rattle.order_core.specs.Protocol.{idle, no_core, first_of, shape_is_next, is
 use Rattle.order_core.specs.Reachable.{IsReachable, Begins, Commits, Acts, IsProtocol}
 use Rattle.order_core.proofs.LegalLemmas.{legal_first}
 use Rattle.order_core.proofs.Queue.{touch_of, entry_of, pending, entries_of, one_if, meets, left_of, IsSound}
-use Rattle.order_core.proofs.Steps.{Sound, sound-reachable}
+use Rattle.order_core.proofs.Steps.{Sound, sound_reachable}
 
 -- ---- the search for a move
 
@@ -30,32 +30,32 @@ pub record IsStill (s : Protocol) (core : ℕ) : Type 0 where
   pub no_send : can_act s (Send core) ≡ false
 
 module _ {A : Type 0} (test : A → Bool) where
-  find-append_none : (xs ys : List A) → find test (xs ++ ys) ≡ None → (find test xs ≡ None) × (find test ys ≡ None)
-  find-append_none [] ys e = (refl, e)
-  find-append_none (x ∷ xs) ys e = go (test x) refl e (find-append_none xs ys)
+  find_append_none : (xs ys : List A) → find test (xs ++ ys) ≡ None → (find test xs ≡ None) × (find test ys ≡ None)
+  find_append_none [] ys e = (refl, e)
+  find_append_none (x ∷ xs) ys e = go (test x) refl e (find_append_none xs ys)
     where
       go : (b : Bool) → test x ≡ b → cond b (Some x) (find test (xs ++ ys)) ≡ None → (find test (xs ++ ys) ≡ None → (find test xs ≡ None) × (find test ys ≡ None)) → (cond (test x) (Some x) (find test xs) ≡ None) × (find test ys ≡ None)
       go true b e rest = cc
       go false b e rest = let r = rest e in (ap (λ (t : Bool). cond t (Some x) (find test xs)) b ∙ r.0, r.1)
 
-  pub find-none_append : (xs ys : List A) → find test xs ≡ None → find test (xs ++ ys) ≡ find test ys
-  find-none_append [] ys e = refl
-  find-none_append (x ∷ xs) ys e = go (test x) refl e (find-none_append xs ys)
+  pub find_none_append : (xs ys : List A) → find test xs ≡ None → find test (xs ++ ys) ≡ find test ys
+  find_none_append [] ys e = refl
+  find_none_append (x ∷ xs) ys e = go (test x) refl e (find_none_append xs ys)
     where
       go : (b : Bool) → test x ≡ b → cond b (Some x) (find test xs) ≡ None → (find test xs ≡ None → find test (xs ++ ys) ≡ find test ys) → cond (test x) (Some x) (find test (xs ++ ys)) ≡ find test ys
       go true b e rest = cc
       go false b e rest = ap (λ (t : Bool). cond t (Some x) (find test (xs ++ ys))) b ∙ rest e
 
-  pub find-some_append : (xs ys : List A) (x : A) → find test xs ≡ Some x → find test (xs ++ ys) ≡ Some x
-  find-some_append [] ys x e = cc
-  find-some_append (y ∷ xs) ys x e = go (test y) refl e (find-some_append xs ys x)
+  pub find_some_append : (xs ys : List A) (x : A) → find test xs ≡ Some x → find test (xs ++ ys) ≡ Some x
+  find_some_append [] ys x e = cc
+  find_some_append (y ∷ xs) ys x e = go (test y) refl e (find_some_append xs ys x)
     where
       go : (b : Bool) → test y ≡ b → cond b (Some y) (find test xs) ≡ Some x → (find test xs ≡ Some x → find test (xs ++ ys) ≡ Some x) → cond (test y) (Some y) (find test (xs ++ ys)) ≡ Some x
       go true b e rest = ap (λ (t : Bool). cond t (Some y) (find test (xs ++ ys))) b ∙ e
       go false b e rest = ap (λ (t : Bool). cond t (Some y) (find test (xs ++ ys))) b ∙ rest e
 
-  find-tail : (x : A) (xs : List A) → find test (x ∷ xs) ≡ None → (test x ≡ false) × (find test xs ≡ None)
-  find-tail x xs e = go (test x) refl e
+  find_tail : (x : A) (xs : List A) → find test (x ∷ xs) ≡ None → (test x ≡ false) × (find test xs ≡ None)
+  find_tail x xs e = go (test x) refl e
     where
       go : (b : Bool) → test x ≡ b → cond b (Some x) (find test xs) ≡ None → (test x ≡ false) × (find test xs ≡ None)
       go true b e = cc
@@ -66,12 +66,12 @@ skip true x rest e = cc
 skip false x rest e = refl
 
 module _ (s : Protocol) where
-  still-none : (core : ℕ) → find (can_act s) (moves_of core) ≡ None → IsStill s core
-  still-none core e =
-      let resume = find-tail (can_act s) (Resume core) (Reply core ∷ Serve core ∷ Send core ∷ []) e in
-      let reply = find-tail (can_act s) (Reply core) (Serve core ∷ Send core ∷ []) resume.1 in
-      let serve = find-tail (can_act s) (Serve core) (Send core ∷ []) reply.1 in
-      let send = find-tail (can_act s) (Send core) [] serve.1 in
+  still_none : (core : ℕ) → find (can_act s) (moves_of core) ≡ None → IsStill s core
+  still_none core e =
+      let resume = find_tail (can_act s) (Resume core) (Reply core ∷ Serve core ∷ Send core ∷ []) e in
+      let reply = find_tail (can_act s) (Reply core) (Serve core ∷ Send core ∷ []) resume.1 in
+      let serve = find_tail (can_act s) (Serve core) (Send core ∷ []) reply.1 in
+      let send = find_tail (can_act s) (Send core) [] serve.1 in
       record {
         no_resume = resume.0;
         no_reply = reply.0;
@@ -79,30 +79,30 @@ module _ (s : Protocol) where
         no_send = send.0;
       }
 
-  none-still : (core : ℕ) → IsStill s core → find (can_act s) (moves_of core) ≡ None
-  none-still core h =
+  none_still : (core : ℕ) → IsStill s core → find (can_act s) (moves_of core) ≡ None
+  none_still core h =
       skip (can_act s (Resume core)) (Resume core) (find (can_act s) (Reply core ∷ Serve core ∷ Send core ∷ [])) h.no_resume ∙ skip (can_act s (Reply core)) (Reply core) (find (can_act s) (Serve core ∷ Send core ∷ [])) h.no_reply
       ∙ skip (can_act s (Serve core)) (Serve core) (find (can_act s) (Send core ∷ [])) h.no_serve ∙ skip (can_act s (Send core)) (Send core) None h.no_send
 
-  still-below : (count : ℕ) → find (can_act s) (moves_below count) ≡ None → (core : ℕ) → core < count → IsStill s core
-  still-below zero e core h = absurd (omega arith)
-  still-below (suc count) e core h = go (cases_eq core count) (still-below count)
+  still_below : (count : ℕ) → find (can_act s) (moves_below count) ≡ None → (core : ℕ) → core < count → IsStill s core
+  still_below zero e core h = absurd (omega arith)
+  still_below (suc count) e core h = go (cases_eq core count) (still_below count)
     where
       both : (find (can_act s) (moves_below count) ≡ None) × (find (can_act s) (moves_of count) ≡ None)
-      both = find-append_none (can_act s) (moves_below count) (moves_of count) e
+      both = find_append_none (can_act s) (moves_below count) (moves_of count) e
 
       go : (core ≡ count) ⊎ (core ≡ count → ⊥) → (find (can_act s) (moves_below count) ≡ None → (core : ℕ) → core < count → IsStill s core) → IsStill s core
-      go (inl same) rest = let P : ℕ → Type 0 = IsStill s in subst P (sym same) (still-none count both.1)
+      go (inl same) rest = let P : ℕ → Type 0 = IsStill s in subst P (sym same) (still_none count both.1)
       go (inr apart) rest = rest both.0 core (omega arith)
 
-  all_still-none : ((core : ℕ) → IsStill s core) → (count : ℕ) → find (can_act s) (moves_below count) ≡ None
-  all_still-none h zero = refl
-  all_still-none h (suc count) = find-none_append (can_act s) (moves_below count) (moves_of count) (all_still-none h count) ∙ none-still count (h count)
+  all_still_none : ((core : ℕ) → IsStill s core) → (count : ℕ) → find (can_act s) (moves_below count) ≡ None
+  all_still_none h zero = refl
+  all_still_none h (suc count) = find_none_append (can_act s) (moves_below count) (moves_of count) (all_still_none h count) ∙ none_still count (h count)
 
 -- ---- at rest
 
-no_core-rests : IsAtRest no_core
-no_core-rests = record {
+no_core_rests : IsAtRest no_core
+no_core_rests = record {
   nothing_unsent = refl;
   lane_empty = refl;
   no_meeting = refl;
@@ -110,9 +110,9 @@ no_core-rests = record {
 
 -- the queue's first record is of a core that can move
 module _ (s : Protocol) (bound : ℕ) (positive : 0 < bound) (sound : Sound bound s) (still : (core : ℕ) → core < length s.cores → IsStill s core) where
-  shape-moves : (core : ℕ) → IsStill s core → (queued : Queued) (lane : List Queued) → ((core_at s core).lane).items ≡ queued ∷ lane → (shape : Shape) → queued.shape ≡ shape
+  shape_moves : (core : ℕ) → IsStill s core → (queued : Queued) (lane : List Queued) → ((core_at s core).lane).items ≡ queued ∷ lane → (shape : Shape) → queued.shape ≡ shape
       → is_ready (reached_at s.served) (entries_of (core_at s core)) ≡ true → ⊥
-  shape-moves core h queued lane e shape t ready = go shape t (ap (λ (entries : List Entry). is_ready (reached_at s.served) entries) (sym entries_is) ∙ ready)
+  shape_moves core h queued lane e shape t ready = go shape t (ap (λ (entries : List Entry). is_ready (reached_at s.served) entries) (sym entries_is) ∙ ready)
     where
       entries_is : entries_of (core_at s core) ≡ entry_of queued ∷ map entry_of (lane ++ option_to_list (core_at s core).unsent)
       entries_is = ap (λ (items : List Queued). map entry_of (items ++ option_to_list (core_at s core).unsent)) e
@@ -133,7 +133,7 @@ module _ (s : Protocol) (bound : ℕ) (positive : 0 < bound) (sound : Sound boun
           cc (sym h.no_reply ∙ ap (λ (b : Bool). b && not (core_at s core).reply) meet ∙ ap not h.no_resume)
 
   sends : (core : ℕ) → core < length s.cores → IsStill s core → (lane : List Queued) → ((core_at s core).lane).items ≡ lane → is_ready (reached_at s.served) (entries_of (core_at s core)) ≡ true → ⊥
-  sends core lt h (queued ∷ lane) e ready = shape-moves core h queued lane e queued.shape refl ready
+  sends core lt h (queued ∷ lane) e ready = shape_moves core h queued lane e queued.shape refl ready
   sends core lt h [] e ready = go (core_at s core).unsent refl
     where
       go : (unsent : Option Queued) → (core_at s core).unsent ≡ unsent → ⊥
@@ -148,9 +148,9 @@ module _ (s : Protocol) (bound : ℕ) (positive : 0 < bound) (sound : Sound boun
   le_or_gt : (a b : ℕ) → (a ≤ b) ⊎ (b < a)
   le_or_gt a b = grind arith
 
-  queue-empty : (queue : List Marked) → IsSound bound s.cores s.drawn s.served queue → (core : ℕ) → left_of s.cores core ≡ []
-  queue-empty [] sound core = sym ((sound.legal).parts core)
-  queue-empty (m ∷ queue) sound core = absurd (go (le_or_gt (length s.cores) m.0))
+  queue_empty : (queue : List Marked) → IsSound bound s.cores s.drawn s.served queue → (core : ℕ) → left_of s.cores core ≡ []
+  queue_empty [] sound core = sym ((sound.legal).parts core)
+  queue_empty (m ∷ queue) sound core = absurd (go (le_or_gt (length s.cores) m.0))
     where
       ready : is_ready (reached_at s.served) (entries_of (core_at s m.0)) ≡ true
       ready = legal_first (left_of s.cores) (reached_at s.served) m queue sound.legal
@@ -160,32 +160,32 @@ module _ (s : Protocol) (bound : ℕ) (positive : 0 < bound) (sound : Sound boun
       go (inr lt) = sends m.0 lt (still m.0 lt) ((core_at s m.0).lane).items refl ready
 
   -- nothing is on its way
-  empty-lane : (lane : List Queued) (unsent : Option Queued) → map entry_of (lane ++ option_to_list unsent) ≡ [] → (unsent ≡ None) × (lane ≡ [])
-  empty-lane [] None e = (refl, refl)
-  empty-lane [] (Some x) e = cc
-  empty-lane (x ∷ lane) unsent e = cc
+  empty_lane : (lane : List Queued) (unsent : Option Queued) → map entry_of (lane ++ option_to_list unsent) ≡ [] → (unsent ≡ None) × (lane ≡ [])
+  empty_lane [] None e = (refl, refl)
+  empty_lane [] (Some x) e = cc
+  empty_lane (x ∷ lane) unsent e = cc
 
-  none-met : (meeting : Bool) → one_if meeting ≡ 0 → meeting ≡ false
-  none-met true e = absurd (omega arith)
-  none-met false e = refl
+  none_met : (meeting : Bool) → one_if meeting ≡ 0 → meeting ≡ false
+  none_met true e = absurd (omega arith)
+  none_met false e = refl
 
   rests : (core : ℕ) → IsAtRest (core_at s core)
   rests core = go (le_or_gt (length s.cores) core)
     where
       go : (length s.cores ≤ core) ⊎ (core < length s.cores) → IsAtRest (core_at s core)
-      go (inl past) = let P : CoreQueue → Type 0 = IsAtRest in subst P (sym (get_or_past s.cores core no_core past)) no_core-rests
+      go (inl past) = let P : CoreQueue → Type 0 = IsAtRest in subst P (sym (get_or_past s.cores core no_core past)) no_core_rests
       go (inr lt) =
-          let empty = empty-lane ((core_at s core).lane).items (core_at s core).unsent (queue-empty sound.0 sound.1 core) in
+          let empty = empty_lane ((core_at s core).lane).items (core_at s core).unsent (queue_empty sound.0 sound.1 core) in
           let none : meets (pending (core_at s core)) ≡ 0 = ap (λ (items : List Queued). meets (items ++ option_to_list (core_at s core).unsent)) empty.1 ∙ ap (λ (o : Option Queued). meets (option_to_list o)) empty.0 in
           record {
             nothing_unsent = empty.0;
             lane_empty = empty.1;
-            no_meeting = none-met (core_at s core).meeting (omega (arith, (sound.1).met core, none, ap one_if (still core lt).no_resume));
+            no_meeting = none_met (core_at s core).meeting (omega (arith, (sound.1).met core, none, ap one_if (still core lt).no_resume));
           }
 
 -- a core at rest can not move, since a reply is there only at a meeting
-still-rests : (s : Protocol) (bound : ℕ) → Sound bound s → (core : ℕ) → IsAtRest (core_at s core) → IsStill s core
-still-rests s bound sound core h =
+still_rests : (s : Protocol) (bound : ℕ) → Sound bound s → (core : ℕ) → IsAtRest (core_at s core) → IsStill s core
+still_rests s bound sound core h =
     let first : first_of (core_at s core) ≡ None = ap (λ (items : List Queued). slice_get items 0) h.lane_empty in
     record {
       no_resume = no_reply (core_at s core).reply (omega (arith, (sound.1).met core, ap one_if h.no_meeting));
@@ -198,17 +198,17 @@ still-rests s bound sound core h =
     no_reply true e = absurd (omega arith)
     no_reply false e = refl
 
-pub sound-protocol : (s : Protocol) → (p : IsProtocol s) → Sound p.bound s
-sound-protocol s p = sound-reachable p.cores p.words p.bound s p.reached
+pub sound_protocol : (s : Protocol) → (p : IsProtocol s) → Sound p.bound s
+sound_protocol s p = sound_reachable p.cores p.words p.bound s p.reached
 
-pub none-rest : (s : Protocol) → IsProtocol s → (some_move s ≡ None) ↔ IsAllAtRest s
-none-rest s p = (
-  λ e. rests s p.bound p.positive (sound-protocol s p) (still-below s (length s.cores) e),
-  λ h. all_still-none s (λ core. still-rests s p.bound (sound-protocol s p) core (h core)) (length s.cores),
+pub none_rest : (s : Protocol) → IsProtocol s → (some_move s ≡ None) ↔ IsAllAtRest s
+none_rest s p = (
+  λ e. rests s p.bound p.positive (sound_protocol s p) (still_below s (length s.cores) e),
+  λ h. all_still_none s (λ core. still_rests s p.bound (sound_protocol s p) core (h core)) (length s.cores),
 )
 
-pub none-settled : (s : Protocol) → IsProtocol s → some_move s ≡ None → IsSettled s
-none-settled s p e core = go (core_at s core).ended refl ((none-rest s p).0 e core)
+pub none_settled : (s : Protocol) → IsProtocol s → some_move s ≡ None → IsSettled s
+none_settled s p e core = go (core_at s core).ended refl ((none_rest s p).0 e core)
   where
     go : (ended : Bool) → (core_at s core).ended ≡ ended → IsAtRest (core_at s core) → IsTrue (can_commit s core) ⊎ (((core_at s core).ended ≡ true) × IsAtRest (core_at s core))
     go true t h = inr (t, h)
@@ -217,18 +217,18 @@ none-settled s p e core = go (core_at s core).ended refl ((none-rest s p).0 e co
 
 -- ---- reachable states have the cores that they began with
 
-pub length-reachable : (cores words bound : ℕ) (s : Protocol) → IsReachable cores words bound s → length s.cores ≡ cores
-length-reachable cores words bound _ Begins = length-replicate cores (idle bound)
-length-reachable cores words bound _ (Commits s core shape r e below) = length-set s.cores core _ ∙ length-reachable cores words bound s r
-length-reachable cores words bound _ (Acts s (Send core) r e) = length-set s.cores core _ ∙ length-reachable cores words bound s r
-length-reachable cores words bound _ (Acts s (Serve core) r e) = length-set s.cores core _ ∙ length-reachable cores words bound s r
-length-reachable cores words bound _ (Acts s (Reply core) r e) = length-set s.cores core _ ∙ length-reachable cores words bound s r
-length-reachable cores words bound _ (Acts s (Resume core) r e) = length-set s.cores core _ ∙ length-reachable cores words bound s r
+pub length_reachable : (cores words bound : ℕ) (s : Protocol) → IsReachable cores words bound s → length s.cores ≡ cores
+length_reachable cores words bound _ Begins = length-replicate cores (idle bound)
+length_reachable cores words bound _ (Commits s core shape r e below) = length-set s.cores core _ ∙ length_reachable cores words bound s r
+length_reachable cores words bound _ (Acts s (Send core) r e) = length-set s.cores core _ ∙ length_reachable cores words bound s r
+length_reachable cores words bound _ (Acts s (Serve core) r e) = length-set s.cores core _ ∙ length_reachable cores words bound s r
+length_reachable cores words bound _ (Acts s (Reply core) r e) = length-set s.cores core _ ∙ length_reachable cores words bound s r
+length_reachable cores words bound _ (Acts s (Resume core) r e) = length-set s.cores core _ ∙ length_reachable cores words bound s r
 
 -- ---- the steps lead from reachable states to reachable states
 
-pub protocol-begin : (cores words bound : ℕ) → cores < 256 → 0 < bound → IsProtocol (begin cores words bound)
-protocol-begin cores words bound few positive = record {
+pub protocol_begin : (cores words bound : ℕ) → cores < 256 → 0 < bound → IsProtocol (begin cores words bound)
+protocol_begin cores words bound few positive = record {
   cores = cores;
   words = words;
   bound = bound;
@@ -237,8 +237,8 @@ protocol-begin cores words bound few positive = record {
   reached = Begins;
 }
 
-pub protocol-commit : (s : Protocol) (core : ℕ) (shape : Shape) → IsProtocol s → can_commit s core ≡ true → IsWordBelow (length s.drawn) shape → IsProtocol (commit s core shape)
-protocol-commit s core shape p e below = record {
+pub protocol_commit : (s : Protocol) (core : ℕ) (shape : Shape) → IsProtocol s → can_commit s core ≡ true → IsWordBelow (length s.drawn) shape → IsProtocol (commit s core shape)
+protocol_commit s core shape p e below = record {
   cores = p.cores;
   words = p.words;
   bound = p.bound;
@@ -247,8 +247,8 @@ protocol-commit s core shape p e below = record {
   reached = Commits s core shape p.reached e below;
 }
 
-pub protocol-act : (s : Protocol) (step : Move) → IsProtocol s → can_act s step ≡ true → IsProtocol (act s step)
-protocol-act s step p e = record {
+pub protocol_act : (s : Protocol) (step : Move) → IsProtocol s → can_act s step ≡ true → IsProtocol (act s step)
+protocol_act s step p e = record {
   cores = p.cores;
   words = p.words;
   bound = p.bound;
@@ -257,5 +257,5 @@ protocol-act s step p e = record {
   reached = Acts s step p.reached e;
 }
 
-pub protocol-few : (s : Protocol) → IsProtocol s → length s.cores < 256
-protocol-few s p = omega (arith, length-reachable p.cores p.words p.bound s p.reached, p.few)
+pub protocol_few : (s : Protocol) → IsProtocol s → length s.cores < 256
+protocol_few s p = omega (arith, length_reachable p.cores p.words p.bound s p.reached, p.few)

@@ -14,21 +14,21 @@ abbrev pub read_or : {A : Type 0} → A → List A → ℕ → A
 read_or d xs = λ j. get_or xs j d
 
 module _ {A : Type 0} (f : ℕ → A) where
-  pub set_at-same : (i : ℕ) (a : A) → set_at f i a i ≡ a
-  set_at-same i a = ap (λ (b : Bool). cond b a (f i)) (eq-eqb i i refl)
+  pub set_at_same : (i : ℕ) (a : A) → set_at f i a i ≡ a
+  set_at_same i a = ap (λ (b : Bool). cond b a (f i)) (eq-eqb i i refl)
 
-  pub set_at-other : (i j : ℕ) (a : A) → j ≢ i → set_at f i a j ≡ f j
-  set_at-other i j a h = ap (λ (b : Bool). cond b a (f j)) (ne_eqb j i h)
+  pub set_at_other : (i j : ℕ) (a : A) → j ≢ i → set_at f i a j ≡ f j
+  set_at_other i j a h = ap (λ (b : Bool). cond b a (f j)) (ne_eqb j i h)
 
-  pub shifted-set_at_zero : (a : A) → shifted (set_at f zero a) ≡ shifted f
-  shifted-set_at_zero a = fun_ext (λ j. ap (λ (b : Bool). cond b a (f (suc j))) (eqb-suc-zero j))
+  pub shifted_set_at_zero : (a : A) → shifted (set_at f zero a) ≡ shifted f
+  shifted_set_at_zero a = fun_ext (λ j. ap (λ (b : Bool). cond b a (f (suc j))) (eqb-suc-zero j))
 
-  pub shifted-set_at_suc : (i : ℕ) (a : A) → shifted (set_at f (suc i) a) ≡ set_at (shifted f) i a
-  shifted-set_at_suc i a = fun_ext (λ j. ap (λ (b : Bool). cond b a (f (suc j))) (eqb-suc-suc j i))
+  pub shifted_set_at_suc : (i : ℕ) (a : A) → shifted (set_at f (suc i) a) ≡ set_at (shifted f) i a
+  shifted_set_at_suc i a = fun_ext (λ j. ap (λ (b : Bool). cond b a (f (suc j))) (eqb-suc-suc j i))
 
 -- a list changed at a place, read as a function
-pub read_or-set : {A : Type 0} (d : A) (xs : List A) (i : ℕ) (a : A) → i < length xs → read_or d (set xs i a) ≡ set_at (read_or d xs) i a
-read_or-set {A} d xs i a h = fun_ext (λ j. at j (eqb_tells j i))
+pub read_or_set : {A : Type 0} (d : A) (xs : List A) (i : ℕ) (a : A) → i < length xs → read_or d (set xs i a) ≡ set_at (read_or d xs) i a
+read_or_set {A} d xs i a h = fun_ext (λ j. at j (eqb_tells j i))
   where
     at : (j : ℕ) → ((eqb j i ≡ true) × (j ≡ i)) ⊎ ((eqb j i ≡ false) × (j ≢ i)) → get_or (set xs i a) j d ≡ set_at (read_or d xs) i a j
     at j (inl same) = ap (λ (k : ℕ). get_or (set xs i a) k d) same.1 ∙ get_or-set_same xs i a d h ∙ sym (ap (λ (b : Bool). cond b a (get_or xs j d)) same.0)

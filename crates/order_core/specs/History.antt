@@ -1,25 +1,15 @@
 -- A history of accesses of several cores in one order, as a table of numbered words gives it, and the logs that it fits:
 -- each core's part is the accesses of its log, and each word's numbers count up from 0.
-use Rattle.std.specs.Prelude.{◌≡◌, ℕ, ◌==◌, if◌then◌else◌, List, [], ◌∷◌, ◌++◌, Option, Some, None, option_to_list}
+use Rattle.std.specs.Prelude.{◌≡◌, ℕ, List, [], ◌∷◌, ◌++◌, Option, Some, None, option_to_list}
 use Rattle.order_core.specs.declared.entry.Access.{Access}
 use Rattle.order_core.specs.declared.entry.Entry.{Entry}
 use Rattle.order_core.specs.Logs.{log_of}
-use Rattle.order_core.specs.Marked.{Marked, number_at}
+use Rattle.order_core.specs.Marked.{Marked, part_of, numbers_by}
 use Rattle.order_core.specs.LegalMerge.{CountUpFrom, IsLegalMerge}
 
 -- an access and the core that made it
 abbrev pub CoreAccess : Type 0
 CoreAccess = ℕ × Access
-
--- the accesses of one core, in their order
-abbrev pub accesses_of : ℕ → List CoreAccess → List Access
-accesses_of core [] = []
-accesses_of core (a ∷ history) = if a.0 == core then a.1 ∷ accesses_of core history else accesses_of core history
-
--- the numbers of the accesses to a word, in their order
-abbrev pub numbers_in : ℕ → List CoreAccess → List ℕ
-numbers_in word [] = []
-numbers_in word (a ∷ history) = number_at word (Some a.1) ++ numbers_in word history
 
 -- the accesses in a log
 abbrev pub touches_of : List Entry → List Access
@@ -36,8 +26,8 @@ history_of [] = []
 history_of (m ∷ marked) = touched_by m.0 (m.1).touch ++ history_of marked
 
 pub record FitsLogs (logs : List (List Entry)) (history : List CoreAccess) : Type 0 where
-  pub parts : (core : ℕ) → accesses_of core history ≡ touches_of (log_of logs core)
-  pub numbers : (word : ℕ) → CountUpFrom 0 (numbers_in word history)
+  pub parts : (core : ℕ) → part_of core history ≡ touches_of (log_of logs core)
+  pub numbers : (word : ℕ) → CountUpFrom 0 (numbers_by Some word history)
 
 -- the history with the units without access put in is a legal merge of the logs
 pub record ExtendsToMerge (logs : List (List Entry)) (history : List CoreAccess) : Type 0 where

@@ -3,7 +3,7 @@
 use Rattle.std.specs.Prelude.{◌≡◌, ℕ, List, [], ◌∷◌, suc}
 use Rattle.order_core.specs.declared.entry.Entry.{Entry}
 use Rattle.order_core.specs.Logs.{log_of}
-use Rattle.order_core.specs.Marked.{Marked, cores_of, part_of, numbers_of}
+use Rattle.order_core.specs.Marked.{Marked, marks_of, part_of, numbers_of}
 
 -- the numbers are `first`, `first + 1`, `first + 2` and so on
 abbrev pub CountUpFrom : ℕ → List ℕ → Type 0
@@ -20,5 +20,5 @@ HasLegalMerge logs = (marked : List Marked) × IsLegalMerge logs marked
 -- a list of cores that is the order of a legal merge of the logs
 pub record IsLegalOrder (logs : List (List Entry)) (order : List ℕ) : Type 0 where
   pub marked : List Marked
-  pub cores : cores_of marked ≡ order
+  pub cores : marks_of marked ≡ order
   pub legal : IsLegalMerge logs marked

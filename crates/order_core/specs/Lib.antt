@@ -8,6 +8,11 @@ pub mod History
 pub mod MergeLaws
 pub mod Room
 pub mod Places
+pub mod CoreSets
+pub mod Giving
+pub mod Walk
+pub mod Walking
+pub mod WalkCalls
 pub mod WordBelow
 pub mod Protocol
 pub mod Reachable

@@ -1,4 +1,4 @@
--- What the merging code keeps: how its lists of places and counts stand for the state of a merge. The merge itself is in CanonicalMerge.
+-- Proof form: how lists of places and counts stand for the state of a merge (CanonicalMerge).
 use Rattle.std.specs.Prelude.{ℕ, List, drop, slice_index}
 use Rattle.order_core.specs.declared.entry.Entry.{Entry}
 use Rattle.order_core.specs.Logs.{log_of}

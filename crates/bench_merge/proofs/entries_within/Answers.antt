@@ -1,4 +1,4 @@
-use Rattle.std.proofs.Common.{◌≡◌, ℕ, ◌+◌, ◌<◌, List, length, drop, arith, ap, leb-true}
+use Rattle.std.proofs.Common.{List, length, arith, ap, leb-true}
 use Rattle.std.proofs.lemmas.List.{at_drop_more, at_drop_all}
 use Rattle.order_core.specs.Bounded.{Bounded}
 use Rattle.order_core.specs.declared.entry.Entry.{Entry}

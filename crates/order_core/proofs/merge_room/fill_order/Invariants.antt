@@ -1,7 +1,7 @@
 use Rattle.std.proofs.Common.{◌≡◌, ℕ, ◌≤◌, length, slice_index, vec_len}
 use Rattle.order_core.specs.Logs.{logs_of}
 use Rattle.order_core.specs.Places.{left_at, reached_at}
-use Rattle.order_core.proofs.Giving.{IsGiving}
+use Rattle.order_core.specs.Giving.{IsGiving}
 use Rattle.order_core.proofs.merge_room.fill_order.Given as goal
 
 abbrev pub invariant-entries : goal.invariant-entries

@@ -1,0 +1,9 @@
+use Rattle.std.proofs.Common.{w32}
+use Rattle.std.proofs.lemmas.Nat.Bits.{bit_at_set_same, bit_at_set_other}
+use Rattle.order_core.proofs.core_set.CoreSet.with.Goals as goal
+
+pub returns-clause-same : goal.returns-clause-same
+returns-clause-same c = bit_at_set_same w32 c.args.self.mask c.args.core c.requires
+
+pub returns-clause-others : goal.returns-clause-others
+returns-clause-others c = bit_at_set_other w32 c.args.self.mask c.args.core c.requires
