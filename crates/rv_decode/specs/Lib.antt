@@ -5,4 +5,5 @@ pub mod Decoded
 pub mod Ranges
 pub mod FreeBits
 pub mod Classes
+pub mod Four
 pub mod Agreement

@@ -4,3 +4,4 @@ pub mod Faults
 pub mod Results
 pub mod Payloads
 pub mod Instructions
+pub mod Touched

@@ -12,6 +12,7 @@ mod payload;
 mod start;
 #[cfg(test)]
 mod tests;
+mod touched;
 
 pub use ask::Ask;
 pub use fault::Fault;
@@ -20,3 +21,4 @@ pub use hart::Hart;
 pub use op::{NO_NUMBER, Op, Taken};
 pub use payload::apply;
 pub use start::begin;
+pub use touched::bytes_touched;

@@ -1,2 +1,10 @@
 pub mod Rules
-pub mod Four
+pub mod Memory
+pub mod Bits
+pub mod Masks
+pub mod Policies
+pub mod Kinds
+pub mod Faults
+pub mod Keys
+pub mod Grammar
+pub mod ReadForms

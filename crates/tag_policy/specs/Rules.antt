@@ -3,42 +3,24 @@
 use Rattle.std.specs.Prelude.{ℕ, Bool, false, ◌&&◌, ◌||◌, List, slice_index_or}
 use Rattle.rv_decode.specs.declared.insn.Class.{Class}
 use Rattle.rv_decode.specs.declared.insn.Class.TheVariants.{Arith, Logic, Shift, Compare, MulDiv}
+use Rattle.rv_decode.specs.Four.{four}
+use Rattle.tag_policy.specs.declared.rules.Version.{Version}
+use Rattle.tag_policy.specs.declared.rules.Version.TheVariants.{WordTags, ByteTags}
+use Rattle.tag_policy.specs.declared.rules.Mode.{Mode}
+use Rattle.tag_policy.specs.declared.rules.Mode.TheVariants.{Clear, Or, And}
+use Rattle.tag_policy.specs.declared.rules.Check.{Check}
+use Rattle.tag_policy.specs.declared.rules.Check.TheVariants.{Jump, LoadAddress, StoreAddress, BranchCondition, CallNumber, CallArgument, Sink}
+use Rattle.tag_policy.specs.declared.rules.Rules.{Rules}
 
--- the mode of a class: the result has no tag, or that of either operand, or that of both
-pub data Mode : Type 0 where
-  Clear : Mode
-  Or : Mode
-  And : Mode
+-- a policy: its version, and the rules of its bits, of which it has at most four
+pub record PolicySeen : Type 0 where
+  pub version : Version
+  pub rules : List Rules
 
--- the seven checks
-pub data Check : Type 0 where
-  Jump : Check
-  LoadAddress : Check
-  StoreAddress : Check
-  BranchCondition : Check
-  CallNumber : Check
-  CallArgument : Check
-  Sink : Check
-
--- what a policy says of its one bit: whether input is a source, a mode for each class, what loads and stores carry, and which checks it has
-pub record Rules : Type 0 where
-  pub source : Bool
-  pub arith : Mode
-  pub logic : Mode
-  pub shift : Mode
-  pub compare : Mode
-  pub muldiv : Mode
-  pub load_data : Bool
-  pub load_address : Bool
-  pub store_data : Bool
-  pub store_address : Bool
-  pub check_jump : Bool
-  pub check_load_address : Bool
-  pub check_store_address : Bool
-  pub check_branch : Bool
-  pub check_call_number : Bool
-  pub check_call_argument : Bool
-  pub check_sink : Bool
+-- the number of a version, as policy texts write it
+abbrev pub version_number : Version → ℕ
+version_number WordTags = 1
+version_number ByteTags = 2
 
 -- a bit that no policy governs
 abbrev pub no_rules : Rules
@@ -79,9 +61,9 @@ has_check rules CallNumber = rules.check_call_number
 has_check rules CallArgument = rules.check_call_argument
 has_check rules Sink = rules.check_sink
 
--- the rules of bit i of a policy, which has at most four
-abbrev pub rules_at : List Rules → ℕ → Rules
-rules_at policy i = slice_index_or policy i no_rules
+-- the rules of bit i of a policy
+abbrev pub rules_at : PolicySeen → ℕ → Rules
+rules_at policy i = slice_index_or policy.rules i no_rules
 
 -- the kinds of check, as traps number them
 abbrev pub kind_of : Check → ℕ
@@ -113,3 +95,7 @@ store_bit rules value address = (rules.store_data && value) || (rules.store_addr
 -- whether a check fires, of the bit that it looks at
 abbrev pub check_bit : Rules → Check → Bool → Bool
 check_bit rules check looked = has_check rules check && looked
+
+-- the bits that count as sources
+abbrev pub source_tag : PolicySeen → ℕ
+source_tag policy = four (λ i. (rules_at policy i).source)

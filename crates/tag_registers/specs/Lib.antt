@@ -1,3 +1,6 @@
 pub mod Rows
 pub mod Tags
 pub mod Folds
+pub mod WordOperation
+pub mod Files
+pub mod InRange

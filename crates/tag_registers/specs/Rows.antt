@@ -5,41 +5,26 @@ use Rattle.rv_decode.specs.declared.insn.Insn.{Insn}
 use Rattle.rv_decode.specs.declared.insn.Insn.TheVariants.{Lui, Auipc, Jal, Jalr, Branch, Load, Store, Imm, Reg, Fence, Ecall, Ebreak, Lr, Sc, Amo}
 use Rattle.rv_decode.specs.declared.insn.RegKind.{RegKind}
 use Rattle.rv_decode.specs.declared.insn.RegKind.TheVariants.{Sub, Xor}
-use Rattle.rv_decode.specs.declared.insn.StoreKind.{StoreKind}
-use Rattle.rv_decode.specs.declared.insn.StoreKind.TheVariants.{Sb, Sh, Sw}
 use Rattle.rv_decode.specs.declared.insn.AmoKind.{AmoKind}
 use Rattle.rv_decode.specs.declared.insn.AmoKind.TheVariants.{Swap}
-use Rattle.rv_decode.specs.declared.insn.Class.{Class}
-use Rattle.rv_decode.specs.Rows.{class_of_imm, class_of_reg}
+use Rattle.rv_decode.specs.Classes.{class_of_imm, class_of_reg}
 use Rattle.record_lane.specs.declared.record.Why.{Why}
 use Rattle.record_lane.specs.declared.record.Why.TheVariants.{Insn as ByInsn, Fill, Gather, Claim, Spent}
 use Rattle.record_lane.specs.declared.record.MeetKind.{MeetKind}
 use Rattle.record_lane.specs.declared.record.MeetKind.TheVariants.{Call, Verdict}
 use Rattle.record_lane.specs.declared.record.Record.{Record}
 use Rattle.record_lane.specs.declared.record.Record.TheVariants.{Quiet, Blank, Touch, Meet, Back, End}
-use Rattle.tag_policy.specs.Rules.{Check, Jump, LoadAddress, StoreAddress, BranchCondition, CallNumber, CallArgument, Sink}
-
--- what becomes of the registers' tags
-pub data RegisterRule : Type 0 where
-  KeepTags : RegisterRule
-  ClearTag : ℕ → RegisterRule
-  OfOperands : ℕ → Class → ℕ → ℕ → RegisterRule
-  OfOperand : ℕ → Class → ℕ → RegisterRule
-  OfLoad : ℕ → ℕ → RegisterRule
-
--- what becomes of the word's tag: a store gives its value's register, then its address's
-pub data WordRule : Type 0 where
-  KeepWord : WordRule
-  OfStore : ℕ → ℕ → WordRule
-  JoinStore : ℕ → ℕ → WordRule
-  OfSource : WordRule
-  JoinSource : WordRule
-
--- what becomes of the buffer's tag
-pub data BufferRule : Type 0 where
-  KeepBuffer : BufferRule
-  ClearBuffer : BufferRule
-  JoinWord : BufferRule
+use Rattle.tag_policy.specs.declared.rules.Change.{Change}
+use Rattle.tag_policy.specs.declared.rules.Change.TheVariants.{Replace, Join}
+use Rattle.tag_policy.specs.declared.rules.Check.{Check}
+use Rattle.tag_policy.specs.declared.rules.Check.TheVariants.{Jump, LoadAddress, StoreAddress, BranchCondition, CallNumber, CallArgument, Sink}
+use Rattle.tag_registers.specs.declared.rows.RegisterRule.{RegisterRule}
+use Rattle.tag_registers.specs.declared.rows.RegisterRule.TheVariants.{KeepTags, ClearTag, OfOperands, OfOperand, OfLoad}
+use Rattle.tag_registers.specs.declared.rows.Origin.TheVariants.{OfStore, OfSource}
+use Rattle.tag_registers.specs.declared.rows.WordRule.{WordRule}
+use Rattle.tag_registers.specs.declared.rows.WordRule.TheVariants.{KeepWord, Put}
+use Rattle.tag_registers.specs.declared.rows.BufferRule.{BufferRule}
+use Rattle.tag_registers.specs.declared.rows.BufferRule.TheVariants.{KeepBuffer, ClearBuffer, JoinFound}
 
 -- where a check looks
 pub data Place : Type 0 where
@@ -72,18 +57,17 @@ cancels Xor a b = a == b
 cancels Sub a b = a == b
 cancels _ a b = false
 
-abbrev pub reg_row : RegKind → ℕ → ℕ → ℕ → Row
-reg_row kind rd rs1 rs2 = row (if cancels kind rs1 rs2 then ClearTag rd else OfOperands rd (class_of_reg kind) rs1 rs2) KeepWord []
+abbrev pub reg_rule : RegKind → ℕ → ℕ → ℕ → RegisterRule
+reg_rule kind rd rs1 rs2 = if cancels kind rs1 rs2 then ClearTag rd else OfOperands rd (class_of_reg kind) rs1 rs2
 
--- a store of part of a word joins its tag to the word's
-abbrev pub store_rule : StoreKind → ℕ → ℕ → WordRule
-store_rule Sb rs1 rs2 = JoinStore rs2 rs1
-store_rule Sh rs1 rs2 = JoinStore rs2 rs1
-store_rule Sw rs1 rs2 = OfStore rs2 rs1
+-- a swap stores its operand; every other atomic operation stores a result of the old word too
+abbrev pub amo_change : AmoKind → Change
+amo_change Swap = Replace
+amo_change _ = Join
 
-abbrev pub amo_rule : AmoKind → ℕ → ℕ → WordRule
-amo_rule Swap rs1 rs2 = OfStore rs2 rs1
-amo_rule _ rs1 rs2 = JoinStore rs2 rs1
+-- a store-conditional that did not store leaves its word
+abbrev pub sc_rule : ℕ → ℕ → Bool → WordRule
+sc_rule rs1 rs2 hit = if hit then Put Replace (OfStore rs2 rs1) else KeepWord
 
 -- the row of an instruction; `hit` is whether a store-conditional stored
 abbrev pub insn_row : Insn → Bool → Row
@@ -93,15 +77,15 @@ insn_row (Jal rd imm) hit = row (ClearTag rd) KeepWord []
 insn_row (Jalr rd rs1 imm) hit = row (ClearTag rd) KeepWord (look Jump (rs1 ∷ []) ∷ [])
 insn_row (Branch kind rs1 rs2 imm) hit = row KeepTags KeepWord (look BranchCondition (rs1 ∷ rs2 ∷ []) ∷ [])
 insn_row (Load kind rd rs1 imm) hit = row (OfLoad rd rs1) KeepWord (look LoadAddress (rs1 ∷ []) ∷ [])
-insn_row (Store kind rs1 rs2 imm) hit = row KeepTags (store_rule kind rs1 rs2) (look StoreAddress (rs1 ∷ []) ∷ [])
+insn_row (Store kind rs1 rs2 imm) hit = row KeepTags (Put Replace (OfStore rs2 rs1)) (look StoreAddress (rs1 ∷ []) ∷ [])
 insn_row (Imm kind rd rs1 imm) hit = row (OfOperand rd (class_of_imm kind) rs1) KeepWord []
-insn_row (Reg kind rd rs1 rs2) hit = reg_row kind rd rs1 rs2
+insn_row (Reg kind rd rs1 rs2) hit = row (reg_rule kind rd rs1 rs2) KeepWord []
 insn_row Fence hit = plain_row
 insn_row Ecall hit = plain_row
 insn_row Ebreak hit = plain_row
 insn_row (Lr rd rs1) hit = row (OfLoad rd rs1) KeepWord (look LoadAddress (rs1 ∷ []) ∷ [])
-insn_row (Sc rd rs1 rs2) hit = row (ClearTag rd) (if hit then OfStore rs2 rs1 else KeepWord) (look StoreAddress (rs1 ∷ []) ∷ [])
-insn_row (Amo kind rd rs1 rs2) hit = row (OfLoad rd rs1) (amo_rule kind rs1 rs2) (look LoadAddress (rs1 ∷ []) ∷ look StoreAddress (rs1 ∷ []) ∷ [])
+insn_row (Sc rd rs1 rs2) hit = row (ClearTag rd) (sc_rule rs1 rs2 hit) (look StoreAddress (rs1 ∷ []) ∷ [])
+insn_row (Amo kind rd rs1 rs2) hit = row (OfLoad rd rs1) (Put (amo_change kind) (OfStore rs2 rs1)) (look LoadAddress (rs1 ∷ []) ∷ look StoreAddress (rs1 ∷ []) ∷ [])
 
 -- an instruction that faulted keeps all tags, and makes its checks
 abbrev pub quiet_row : Insn → Bool → Row
@@ -109,9 +93,9 @@ quiet_row insn true = row KeepTags KeepWord (insn_row insn true).looks
 quiet_row insn false = insn_row insn true
 
 abbrev pub touch_row : Why → Row
-touch_row (ByInsn insn hit) = insn_row insn hit
-touch_row (Fill whole) = row KeepTags (if whole then OfSource else JoinSource) []
-touch_row Gather = record plain_row { buffer = JoinWord }
+touch_row (ByInsn insn hit bytes) = insn_row insn hit
+touch_row (Fill bytes) = row KeepTags (Put Replace OfSource) []
+touch_row (Gather bytes) = record plain_row { buffer = JoinFound }
 touch_row Claim = plain_row
 touch_row Spent = plain_row
 
@@ -134,3 +118,15 @@ row_of (Touch step pc word number why) = touch_row why
 row_of (Meet step pc call kind) = meet_row call kind
 row_of (Back step pc) = row (ClearTag 10) KeepWord []
 row_of End = plain_row
+
+-- the bytes of its word that a unit touches: those that its record names, else all four
+abbrev pub bytes_of_touch : Why → ℕ
+bytes_of_touch (ByInsn insn hit bytes) = bytes
+bytes_of_touch (Fill bytes) = bytes
+bytes_of_touch (Gather bytes) = bytes
+bytes_of_touch Claim = 15
+bytes_of_touch Spent = 15
+
+abbrev pub touched_bytes : Record → ℕ
+touched_bytes (Touch step pc word number why) = bytes_of_touch why
+touched_bytes _ = 15

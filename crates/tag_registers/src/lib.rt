@@ -1,2 +1,19 @@
 //! The tags of one core, as its records make them.
 #![tactic(auto)]
+
+mod ask;
+mod consuming;
+mod effects;
+mod file;
+pub mod laws;
+mod looks;
+mod reply;
+mod rows;
+mod touches;
+mod units;
+
+pub use ask::TagAsk;
+pub use file::TagFile;
+
+#[cfg(test)]
+mod tests;
