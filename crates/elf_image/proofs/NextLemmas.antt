@@ -76,7 +76,7 @@ next_touched-not segment from next low at missing =
     (and_from _ _ (lt-ltb segment.start (4096 * next + 4096) (omega arith)) (lt-ltb (4096 * next) segment.end (omega arith)))))
 
 -- the next page of the stack of a core
-pub next_stack-here : (stack core from next : ℕ) → core < 8 → stack ≤ 4096 → next ≡ max from (983040 - 8192 * core - stack) → next < 983040 - 8192 * core → IsNextOf (λ page. is_stack_page_of stack page core) from next
+pub next_stack-here : (stack core from next : ℕ) → core < 32 → stack ≤ 4096 → next ≡ max from (983040 - 8192 * core - stack) → next < 983040 - 8192 * core → IsNextOf (λ page. is_stack_page_of stack page core) from next
 next_stack-here stack core from next few small at under = record {
   low = omega arith;
   high = omega arith;
@@ -84,7 +84,7 @@ next_stack-here stack core from next few small at under = record {
   here = λ _. in_stack stack next core (omega arith) (omega arith);
 }
 
-pub next_stack-not : (stack core from next : ℕ) → from ≤ 1048576 → core < 8 → stack ≤ 4096 → next ≡ max from (983040 - 8192 * core - stack) → 983040 - 8192 * core ≤ next → IsNextOf (λ page. is_stack_page_of stack page core) from 1048576
+pub next_stack-not : (stack core from next : ℕ) → from ≤ 1048576 → core < 32 → stack ≤ 4096 → next ≡ max from (983040 - 8192 * core - stack) → 983040 - 8192 * core ≤ next → IsNextOf (λ page. is_stack_page_of stack page core) from 1048576
 next_stack-not stack core from next low few small at over =
     next_none (λ page. is_stack_page_of stack page core) from low
     (λ page above under.

@@ -35,7 +35,7 @@ above_stack stack page core high =
     and_right (nat_le (stack_top core) (4096 * page + 4096 * stack)) (nat_lt (4096 * page) (stack_top core)) (le-ltb _ _ high)
 
 -- a page so far below the first top is in the stack of a core
-pub stack_page-true : (cores stack page below : ℕ) → cores ≤ 8 → page < 983040 → below ≡ 983039 - page → below / 8192 < cores → below % 8192 < stack → is_stack_page cores stack page ≡ true
+pub stack_page-true : (cores stack page below : ℕ) → cores ≤ 32 → page < 983040 → below ≡ 983039 - page → below / 8192 < cores → below % 8192 < stack → is_stack_page cores stack page ≡ true
 stack_page-true cores stack page below few low at core room =
     any_range-true (is_stack_page_of stack page) 0 cores (below / 8192) (omega arith) (omega arith)
     (in_stack stack page (below / 8192) (omega arith) (omega arith))
@@ -46,11 +46,11 @@ stack_page-above cores stack page high =
     any_range-false (is_stack_page_of stack page) 0 cores (λ core low few. above_stack stack page core (omega arith))
 
 -- a page below it is in no stack if its core is none, or if the stack ends above it
-pub stack_page-other_core : (cores stack page below : ℕ) → cores ≤ 8 → stack ≤ 4096 → page < 983040 → below ≡ 983039 - page → cores ≤ below / 8192 → is_stack_page cores stack page ≡ false
+pub stack_page-other_core : (cores stack page below : ℕ) → cores ≤ 32 → stack ≤ 4096 → page < 983040 → below ≡ 983039 - page → cores ≤ below / 8192 → is_stack_page cores stack page ≡ false
 stack_page-other_core cores stack page below few small low at core =
     any_range-false (is_stack_page_of stack page) 0 cores (λ k from to. below_stack stack page k (omega arith))
 
-pub stack_page-no_room : (cores stack page below : ℕ) → cores ≤ 8 → stack ≤ 4096 → page < 983040 → below ≡ 983039 - page → stack ≤ below % 8192 → is_stack_page cores stack page ≡ false
+pub stack_page-no_room : (cores stack page below : ℕ) → cores ≤ 32 → stack ≤ 4096 → page < 983040 → below ≡ 983039 - page → stack ≤ below % 8192 → is_stack_page cores stack page ≡ false
 stack_page-no_room cores stack page below few small low at room =
     any_range-false (is_stack_page_of stack page) 0 cores
     (λ k from to.
@@ -63,7 +63,7 @@ stack_page-no_room cores stack page below few small low at room =
     ])
 
 -- where the core is one of the count, the page is in its stack exactly where it is among the stack's pages
-pub stack_page-core : (cores stack page below : ℕ) → cores ≤ 8 → stack ≤ 4096 → page < 983040 → below ≡ 983039 - page → below / 8192 < cores → nat_lt (below % 8192) stack ≡ is_stack_page cores stack page
+pub stack_page-core : (cores stack page below : ℕ) → cores ≤ 32 → stack ≤ 4096 → page < 983040 → below ≡ 983039 - page → below / 8192 < cores → nat_lt (below % 8192) stack ≡ is_stack_page cores stack page
 stack_page-core cores stack page below few small low at core =
     elim (cases_lt (below % 8192) stack) [
       | inl lt ↦ lt-ltb _ _ lt ∙ sym (stack_page-true cores stack page below few low at core lt)

@@ -156,7 +156,7 @@ image_fault bytes cores stack heap =
 -- the numbers of a layout are in their ranges, and no test applies to its file
 pub record IsAccepted (layout : Layout) : Type 0 where
   pub some_cores : 1 ≤ layout.cores
-  pub most_cores : layout.cores ≤ 8
+  pub most_cores : layout.cores ≤ 32
   pub some_stack : 1 ≤ layout.stack
   pub most_stack : layout.stack ≤ 4096
   pub most_heap : layout.heap ≤ 4096

@@ -3,6 +3,7 @@
 #![tactic(auto)]
 
 mod contents;
+pub mod device;
 mod fault;
 mod headers;
 mod loading;

@@ -40,7 +40,7 @@ pub fn map_memory(
     stack: u32,
     heap: u32,
 ) -> Result<PageTable, ImageFault>
-    requires cores { cores ≤ 8 }
+    requires cores { cores ≤ 32 }
     requires stack { stack ≤ 4096 }
     requires heap_end { end_of_heap segments.now heap ≤ address_limit }
     ensures table { IfOk result (λ table. IsTableOf segments.now cores stack heap table.mapped.items table.permissions.items) }

@@ -69,7 +69,7 @@ pub fn load(
     heap: u32,
 ) -> Result<Image, ImageFault>
     requires cores_low { 1 ≤ cores }
-    requires cores_high { cores ≤ 8 }
+    requires cores_high { cores ≤ 32 }
     requires stack_low { 1 ≤ stack }
     requires stack_high { stack ≤ 4096 }
     requires heap_high { heap ≤ 4096 }

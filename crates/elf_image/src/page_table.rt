@@ -37,7 +37,7 @@ pub struct DataPages {
 impl DataPages {
     /// Whether a page is one of the heap or of a stack.
     pub fn contains(self, page: u32) -> bool
-        requires cores { self.cores ≤ 8 }
+        requires cores { self.cores ≤ 32 }
         requires stack { self.stack ≤ 4096 }
         ensures { result ≡ (is_heap_page self.first self.heap page || is_stack_page self.cores self.stack page) }
     {
@@ -63,7 +63,7 @@ impl DataPages {
 /// The first page from a page on that is one of the stack of a core, or that of the end of memory.
 fn next_page_of_stack(stack: u32, core: u8, from: u32) -> u32
     requires from { from ≤ 1048576 }
-    requires core { core < 8 }
+    requires core { core < 32 }
     requires stack { stack ≤ 4096 }
     ensures { IsNextOf (λ page. is_stack_page_of stack page core) from result }
 {
@@ -75,7 +75,7 @@ fn next_page_of_stack(stack: u32, core: u8, from: u32) -> u32
 /// The first page from a page on that is one of some stack, or that of the end of memory.
 fn next_stack_page(cores: u8, stack: u32, from: u32) -> u32
     requires from { from ≤ 1048576 }
-    requires cores { cores ≤ 8 }
+    requires cores { cores ≤ 32 }
     requires stack { stack ≤ 4096 }
     ensures { IsNextOf (is_stack_page cores stack) from result }
 {
@@ -100,7 +100,7 @@ fn next_touched(segments: &[Segment], from: u32) -> u32
 /// The first page from a page on that is mapped, or that of the end of memory.
 fn next_mapped(segments: &[Segment], regions: DataPages, from: u32) -> u32
     requires from { from ≤ 1048576 }
-    requires cores { regions.cores ≤ 8 }
+    requires cores { regions.cores ≤ 32 }
     requires stack { regions.stack ≤ 4096 }
     requires first { regions.first ≡ break_page segments.now }
     ensures { IsNextOf (maps segments.now regions.cores regions.stack regions.heap) from result }
@@ -113,7 +113,7 @@ fn next_mapped(segments: &[Segment], regions: DataPages, from: u32) -> u32
 
 /// Whether a page is one of the stack of a core.
 fn is_stack_page(cores: u8, stack: u32, page: u32) -> bool
-    requires cores { cores ≤ 8 }
+    requires cores { cores ≤ 32 }
     requires stack { stack ≤ 4096 }
     ensures { result ≡ is_stack_page cores stack page }
 {
@@ -144,7 +144,7 @@ pub fn any_executable(segments: &[Segment], page: u32) -> bool
 
 /// What may be done on a page.
 fn permissions_on(segments: &[Segment], regions: DataPages, page: u32) -> Permissions
-    requires cores { regions.cores ≤ 8 }
+    requires cores { regions.cores ≤ 32 }
     requires stack { regions.stack ≤ 4096 }
     requires first { regions.first ≡ break_page segments.now }
     ensures { result ≡ permissions_of segments.now regions.cores regions.stack regions.heap page }
@@ -170,7 +170,7 @@ pub fn page_table(
     segments: &[Segment],
     regions: DataPages,
 ) -> Result<PageTable, ImageFault>
-    requires cores { regions.cores ≤ 8 }
+    requires cores { regions.cores ≤ 32 }
     requires stack { regions.stack ≤ 4096 }
     requires first { regions.first ≡ break_page segments.now }
     ensures table { IfOk result (λ table. IsTableOf segments.now regions.cores regions.stack regions.heap table.mapped.items table.permissions.items) }

@@ -1,8 +1,11 @@
-pub mod Pages
-pub mod Asking
 pub mod Gathering
-pub mod Soundness
+pub mod Pages
 pub mod Within
-pub mod Due
+pub mod Asking
+pub mod InsnTasks
+pub mod Decisions
+pub mod UnitLemmas
+pub mod Units
 pub mod Standing
-pub mod Going
+pub mod RecordLemmas
+pub mod RecordKinds

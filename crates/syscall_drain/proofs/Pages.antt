@@ -6,7 +6,7 @@ use Rattle.std.proofs.lemmas.List.Folds.{list_any_none, list_any_at}
 use Rattle.std.proofs.lemmas.Bool.{cases_lt}
 use Rattle.std.proofs.lemmas.Bool.Decides.{nat_tests}
 use Rattle.elf_image.specs.Layout.{Layout, is_mapped, is_writable, is_writable_page, word_of, page_of}
-use Rattle.syscall_drain.specs.Calls.{fails_at, is_mapped_at}
+use Rattle.syscall_drain.specs.Arguments.{fails_at, is_mapped_at}
 
 -- a test that some byte fails fails
 fails-by : (good : ℕ → Bool) (start count k : ℕ) → k < count → good (start + k) ≡ false → list_any (λ j. not (good (start + j))) (range_with_len 0 count) ≡ true

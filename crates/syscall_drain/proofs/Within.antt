@@ -1,20 +1,26 @@
--- The number of a word is below the count of words.
-use Rattle.std.proofs.Common.{◌≡◌, ℕ, ◌+◌, ◌*◌, ◌/◌, ◌%◌, ◌^◌, ◌<◌, Some, None, Bool, true, false, if◌then◌else◌, refl, sym, subst, arith}
+-- The number of a word is below the count of words, and that of a guest word is above the devices'.
+use Rattle.std.proofs.Common.{◌≡◌, ℕ, ◌+◌, ◌*◌, ◌/◌, ◌%◌, ◌^◌, ◌<◌, ◌≤◌, Option, Some, None, Bool, true, false, if◌then◌else◌, refl, sym, subst, arith}
+use Rattle.std.specs.Prelude.{unwrap_or}
 use Rattle.elf_image.specs.Layout.{Layout, is_mapped, count_below, word_of, words_of, page_of}
-use Rattle.syscall_drain.specs.Tasks.{Local, Task, Over, Blanked, Faulted, Plain, Access, Decide, Judge, Claim, Fill, Gather, Return}
-use Rattle.syscall_drain.specs.Local.{task_ask}
-use Rattle.syscall_drain.specs.Sound.{IsTaskWithin, IsWithin}
-use Rattle.syscall_drain.specs.declared.ask.CoreAsk.{CoreAsk}
 use Rattle.elf_image.proofs.Counting.{count_below-lt}
+use Rattle.rv_execute.specs.Harts.{HartState}
+use Rattle.syscall_drain.specs.Locals.{Local}
+use Rattle.syscall_drain.specs.Buffers.{buffer_word, word_address}
+use Rattle.syscall_drain.specs.Units.{task_ask}
+use Rattle.syscall_drain.specs.Sound.{IsSoundTask}
+use Rattle.syscall_drain.specs.Seen.{TouchesBelow}
+use Rattle.syscall_drain.specs.declared.task.Task.{Task}
+use Rattle.syscall_drain.specs.declared.task.Task.TheVariants.{Over, Quiet, Access, Meeting}
+use Rattle.syscall_drain.specs.declared.ask.CoreAsk.{CoreAsk}
 
-some-from : (b : Bool) (n word : ℕ) → Some word ≡ (if b then Some n else None) → (b ≡ true) × (word ≡ n)
-some-from true n word is = (refl, cc)
-some-from false n word is = cc
+some_from : (b : Bool) (n word : ℕ) → Some word ≡ (if b then Some n else None) → (b ≡ true) × (word ≡ n)
+some_from true n word is = (refl, cc)
+some_from false n word is = cc
 
 pub word_below : (layout : Layout) (address word : ℕ) → Some word ≡ word_of layout address → address < 2 ^ 32 → word < words_of layout
 unfolding word_of words_of
 word_below layout address word is low =
-    let parts = some-from (is_mapped layout (page_of address)) (3 + 1024 * count_below (is_mapped layout) (page_of address) + address % 4096 / 4) word is in
+    let parts = some_from (is_mapped layout (page_of address)) (3 + 1024 * count_below (is_mapped layout) (page_of address) + address % 4096 / 4) word is in
     let inside : address / 4096 < 1048576 = omega arith in
     let less = count_below-lt (is_mapped layout) (address / 4096) 1048576 parts.0 inside in
     omega (arith, less, parts.1)
@@ -27,18 +33,33 @@ devices_below layout word low = omega arith
 pub some_words : (layout : Layout) → 0 < words_of layout
 some_words layout = devices_below layout 0 (omega arith)
 
-pub within_ask : (words : ℕ) (l : Local) (task : Task) → IsTaskWithin words task → IsWithin words (task_ask l task)
-within_ask words l Over within = tt
-within_ask words l (Blanked fault) within = tt
-within_ask words l (Faulted fault insn) within = tt
-within_ask words l (Plain insn) within = tt
-within_ask words l (Access insn word op) within = within
-within_ask words l Decide within = tt
-within_ask words l Judge within = tt
-within_ask words l (Claim word op) within = within
-within_ask words l (Fill word op whole) within = within
-within_ask words l (Gather word) within = within
-within_ask words l (Return result) within = tt
+pub one_word : (layout : Layout) → 1 < words_of layout
+one_word layout = devices_below layout 1 (omega arith)
 
-pub within_asked : (words : ℕ) (l : Local) (task : Task) (ask : CoreAsk) → ask ≡ task_ask l task → IsTaskWithin words task → IsWithin words ask
-within_asked words l task ask is within = let P : CoreAsk → Type 0 = λ a. IsWithin words a in subst P (sym is) (within_ask words l task within)
+pub two_words : (layout : Layout) → 2 < words_of layout
+two_words layout = devices_below layout 2 (omega arith)
+
+pub ruleset device_words = (some_words, one_word, two_words)
+
+-- a guest word is no device
+pub word_above : (layout : Layout) (address word : ℕ) → word_of layout address ≡ Some word → 3 ≤ word
+unfolding word_of
+word_above layout address word is =
+    let parts = some_from (is_mapped layout (page_of address)) (3 + 1024 * count_below (is_mapped layout) (page_of address) + address % 4096 / 4) word (sym is) in
+    omega (arith, parts.1)
+
+pub buffer_no_output : (layout : Layout) (start index : ℕ) → buffer_word layout start index ≡ 1 → ⊥
+buffer_no_output layout start index = by_word (word_of layout (word_address start index)) refl
+  where
+    by_word : (w : Option ℕ) → word_of layout (word_address start index) ≡ w → unwrap_or w 0 ≡ 1 → ⊥
+    by_word None is e = cc
+    by_word (Some word) is e = let above = word_above layout (word_address start index) word is in omega (arith, above)
+
+pub below_ask : (words : ℕ) (h : HartState) (l : Local) (task : Task) → IsSoundTask words h task → TouchesBelow words (task_ask l task)
+below_ask words h l Over sound = tt
+below_ask words h l (Quiet reason) sound = tt
+below_ask words h l (Access word op reason) sound = sound.0
+below_ask words h l (Meeting kind) sound = tt
+
+pub below_asked : (words : ℕ) (h : HartState) (l : Local) (task : Task) (ask : CoreAsk) → ask ≡ task_ask l task → IsSoundTask words h task → TouchesBelow words ask
+below_asked words h l task ask is sound = let P : CoreAsk → Type 0 = λ a. TouchesBelow words a in subst P (sym is) (below_ask words h l task sound)

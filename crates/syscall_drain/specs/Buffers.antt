@@ -1,5 +1,7 @@
 -- The words that hold a buffer of `count` bytes from an address on, and its bytes in them (this project's own).
-use Rattle.std.specs.Prelude.{ℕ, ◌+◌, ◌-◌, ◌*◌, ◌/◌, ◌%◌, ◌^◌, Bool, ◌&&◌, List, [], ◌∷◌, slice_index, nat_le, nat_lt, if◌then◌else◌}
+use Rattle.std.specs.Prelude.{ℕ, ◌+◌, ◌-◌, ◌*◌, ◌/◌, ◌%◌, ◌^◌, Bool, ◌&&◌, List, [], ◌∷◌, slice_index, nat_le, nat_lt, unwrap_or, if◌then◌else◌}
+use Rattle.elf_image.specs.Layout.{Layout, word_of}
+use Rattle.rv_decode.specs.Four.{four}
 use Rattle.rv_execute.specs.declared.op.Op.{Op}
 use Rattle.rv_execute.specs.declared.op.Op.TheVariants.{Write}
 
@@ -10,12 +12,20 @@ word_count start count = (start % 4 + count + 3) / 4
 abbrev pub word_address : ℕ → ℕ → ℕ
 word_address start index = start - start % 4 + 4 * index
 
+-- the number of that word: it is mapped, or the call would have been refused
+abbrev pub buffer_word : Layout → ℕ → ℕ → ℕ
+buffer_word layout start index = unwrap_or (word_of layout (word_address start index)) 0
+
 -- the place, from 0 at the first of these words, of byte j of word `index`, and whether the buffer has it
 abbrev pub place_of : ℕ → ℕ → ℕ
 place_of index j = 4 * index + j
 
 abbrev pub covers : ℕ → ℕ → ℕ → ℕ → Bool
 covers start count index j = nat_le (start % 4) (place_of index j) && nat_lt (place_of index j) (start % 4 + count)
+
+-- the buffer's bytes in word `index`, a bit for each
+abbrev pub buffer_bytes : ℕ → ℕ → ℕ → ℕ
+buffer_bytes start count index = four (covers start count index)
 
 -- four numbers below 256 as a word
 abbrev pub word_from : (ℕ → ℕ) → ℕ

@@ -1,66 +1,45 @@
--- What the decision unit of a system call decides (numbers and results after the RISC-V Linux calls; the subset and its units are this project's own).
-use Rattle.std.specs.Prelude.{ℕ, ◌+◌, min, Bool, ◌||◌, not, if◌then◌else◌, ◌==◌, nat_lt}
-use Rattle.std.specs.List.{list_any, range_with_len}
-use Rattle.elf_image.specs.Layout.{Layout, is_mapped, is_writable, page_of}
-use Rattle.rv_execute.specs.Harts.{HartState, reg}
+-- All system calls: what the decision unit decides, and what each phase of a call has as its next unit and goes on to (numbers as on RISC-V Linux; the subset and its units are this project's own).
+use Rattle.std.specs.Prelude.{ℕ, ◌%◌, ◌||◌, ◌==◌, List, [], if◌then◌else◌}
+use Rattle.rv_execute.specs.declared.op.Op.{Op}
+use Rattle.rv_execute.specs.declared.op.Taken.{Taken}
+use Rattle.rv_execute.specs.Harts.{HartState}
+use Rattle.rv_execute.specs.Payloads.{changed}
+use Rattle.record_lane.specs.declared.call.TheConstants.{READ, WRITE, EXIT, EXIT_GROUP, BREAK}
 use Rattle.syscall_drain.specs.Programs.{Program}
+use Rattle.syscall_drain.specs.Locals.{Local, ended, in_phase}
+use Rattle.syscall_drain.specs.Arguments.{first_argument, call_number}
+use Rattle.syscall_drain.specs.ReadCall.{read_phase, read_next}
+use Rattle.syscall_drain.specs.WriteCall.{write_phase, write_next, gathered_by}
+use Rattle.syscall_drain.specs.declared.end.End.TheVariants.{Exit}
 use Rattle.syscall_drain.specs.declared.phase.Phase.{Phase}
-use Rattle.syscall_drain.specs.declared.phase.Phase.TheVariants.{ClaimInput, Gathering, ClaimBreak, Returning}
+use Rattle.syscall_drain.specs.declared.phase.Phase.TheVariants.{Running, Reading, Writing, Breaking, Returning}
+use Rattle.syscall_drain.specs.declared.decision.Decision.{Decision}
+use Rattle.syscall_drain.specs.declared.decision.Decision.TheVariants.{Leave, Enter}
+use Rattle.syscall_drain.specs.declared.decision.TheConstants.{NO_CALL}
 
--- a0, a1, a2 and a7
-abbrev pub first_argument : HartState → ℕ
-first_argument h = reg h 10
+-- the two exit calls end the core with the low byte of their argument; every other call goes to a phase
+abbrev pub decision : Program → HartState → Decision
+decision program h =
+    if call_number h == READ then Enter (read_phase program h) else
+    if call_number h == WRITE then Enter (write_phase program h) else
+    if call_number h == BREAK then Enter Breaking else
+    if (call_number h == EXIT) || (call_number h == EXIT_GROUP) then Leave (first_argument h % 256) else
+    Enter (Returning NO_CALL)
 
-abbrev pub buffer_start : HartState → ℕ
-buffer_start h = reg h 11
+-- a write call that is not decided at once begins to gather
+abbrev pub gathered_at : Phase → List ℕ → List ℕ
+gathered_at (Writing stage) gathered = []
+gathered_at _ gathered = gathered
 
--- one call moves at most 4,096 bytes
-abbrev pub byte_count : HartState → ℕ
-byte_count h = min (reg h 12) 4096
+abbrev pub decided : Decision → Local → Local
+decided (Leave status) l = ended (Exit status) l
+decided (Enter phase) l = record l { phase = phase; gathered = gathered_at phase l.gathered }
 
-abbrev pub call_number : HartState → ℕ
-call_number h = reg h 17
-
--- minus EBADF, EFAULT and ENOSYS modulo 2^32
-abbrev pub bad_descriptor : ℕ
-bad_descriptor = 4294967287
-
-abbrev pub bad_address : ℕ
-bad_address = 4294967282
-
-abbrev pub no_call : ℕ
-no_call = 4294967258
-
--- whether some byte of a buffer passes 2^32, or fails a test of its address
-abbrev pub fails_at : (ℕ → Bool) → ℕ → ℕ → Bool
-fails_at good start count =
-    nat_lt 4294967296 (start + count) || list_any (λ k. not (good (start + k))) (range_with_len 0 count)
-
-abbrev pub is_mapped_at : Layout → ℕ → Bool
-is_mapped_at layout address = is_mapped layout (page_of address)
-
--- the phase after the decision of a read, a write, and any call but exit
-abbrev pub read_phase : Program → HartState → Phase
-read_phase program h =
-    if not (first_argument h == 0) then Returning bad_descriptor else
-    if byte_count h == 0 then Returning 0 else
-    if fails_at (is_writable program.layout) (buffer_start h) (byte_count h) then Returning bad_address else
-    ClaimInput
-
-abbrev pub write_phase : Program → HartState → Phase
-write_phase program h =
-    if not ((first_argument h == 1) || (first_argument h == 2)) then Returning bad_descriptor else
-    if byte_count h == 0 then Returning 0 else
-    if fails_at (is_mapped_at program.layout) (buffer_start h) (byte_count h) then Returning bad_address else
-    Gathering 0
-
-abbrev pub call_phase : Program → HartState → Phase
-call_phase program h =
-    if call_number h == 63 then read_phase program h else
-    if call_number h == 64 then write_phase program h else
-    if call_number h == 214 then ClaimBreak else
-    Returning no_call
-
--- the two exit calls end the core
-abbrev pub is_exit : HartState → Bool
-is_exit h = (call_number h == 93) || (call_number h == 94)
+-- a core in a phase of a call, after the phase's access found this
+abbrev pub call_after : Program → Local → Op → Taken → Phase → Local
+call_after program l op t Running = l
+call_after program l op t (Reading stage) = in_phase (read_next program l.hart stage t.old) l
+call_after program l op t (Writing stage) =
+    record l { phase = write_next l.hart stage; gathered = gathered_by l.hart stage t.old l.gathered }
+call_after program l op t Breaking = in_phase (Returning (changed op t.number t.old)) l
+call_after program l op t (Returning result) = l

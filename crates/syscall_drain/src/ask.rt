@@ -1,3 +1,4 @@
+use crate::task::Task;
 use record_lane::{Record, Reply};
 use rv_execute::{Op, Taken};
 
@@ -12,6 +13,13 @@ pub enum CoreAsk {
     Meet { item: Record },
     /// The core has ended and has no next unit.
     Ended,
+}
+
+/// The next unit of a core, whole: what it asks for, and what it is to the core.
+#[derive(Clone, Copy, Debug, PartialEq, Eq)]
+pub struct NextUnit {
+    pub ask: CoreAsk,
+    pub(crate) task: Task,
 }
 
 /// What a unit is given.

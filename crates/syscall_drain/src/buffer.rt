@@ -1,7 +1,10 @@
 //! The words that hold a call's buffer, and its bytes in them.
-ghost use Rattle.std.specs.Prelude.{◌≡◌, ◌+◌, ◌-◌, ◌*◌, ◌/◌, ◌%◌, ◌^◌, ◌<◌, ◌≤◌, slice_index, if◌then◌else◌, length};
-ghost use Rattle.syscall_drain.specs.Buffers.{word_count, word_address, place_of, covers, word_from, buffer_mask, buffer_value, fill};
+ghost use Rattle.std.specs.Prelude.{◌≡◌, ◌+◌, ◌-◌, ◌*◌, ◌/◌, ◌%◌, ◌^◌, ◌<◌, ◌≤◌, slice_index, if◌then◌else◌, length, IfSome};
+ghost use Rattle.elf_image.specs.Layout.{word_of, words_of};
+ghost use Rattle.rv_decode.specs.Four.{bit_value};
+ghost use Rattle.syscall_drain.specs.Buffers.{word_count, word_address, buffer_word, place_of, covers, buffer_bytes, word_from, buffer_mask, buffer_value, fill};
 
+use elf_image::Image;
 use rv_execute::Op;
 
 /// The buffer of a call: its first address, and its count of bytes.
@@ -9,6 +12,30 @@ use rv_execute::Op;
 pub struct Buffer {
     pub start: u32,
     pub count: u32,
+}
+
+/// The number of the word that holds an address.
+#[tactic(auto, using(crate::proofs::Within::word_below))]
+pub fn word_of(image: &Image, address: u32) -> Option<u32>
+    ensures value { result ≡ word_of image.now address }
+    ensures within { IfSome result (λ word. word < words_of image.now) }
+{
+    image.word_of(address)
+}
+
+/// The number of a word of a buffer.
+#[tactic(auto, using(crate::proofs::Within::some_words))]
+pub fn buffer_word(image: &Image, buffer: Buffer, index: u32) -> u32
+    requires few { buffer.count ≤ 4096 }
+    requires fits { buffer.start + buffer.count ≤ 4294967296 }
+    requires inside { index < word_count buffer.start buffer.count }
+    ensures value { result ≡ buffer_word image.now buffer.start index }
+    ensures within { result < words_of image.now }
+{
+    match word_of(image, buffer.word_address(index)) {
+        Some(word) => word,
+        None => 0,
+    }
 }
 
 impl Buffer {
@@ -37,6 +64,29 @@ impl Buffer {
     {
         let place = 4 * index + j;
         self.start % 4 <= place && place < self.start % 4 + self.count
+    }
+
+    fn bit(self, index: u32, j: u32) -> u8
+        requires few { self.count ≤ 4096 }
+        requires low { index ≤ 1024 }
+        requires byte { j < 4 }
+        ensures value { result ≡ bit_value (covers self.start self.count index j) }
+        ensures small { result < 2 }
+    {
+        u8::from(self.covers(index, j))
+    }
+
+    /// The buffer's bytes in a word, a bit for each.
+    pub fn bytes(self, index: u32) -> u8
+        requires few { self.count ≤ 4096 }
+        requires low { index ≤ 1024 }
+        ensures value { result ≡ buffer_bytes self.start self.count index }
+        ensures small { result < 16 }
+    {
+        self.bit(index, 0)
+            + 2 * self.bit(index, 1)
+            + 4 * self.bit(index, 2)
+            + 8 * self.bit(index, 3)
     }
 
     fn mask_byte(self, index: u32, j: u32) -> u32

@@ -1,20 +1,20 @@
 //! One core: its units, one after another.
-ghost use Rattle.std.specs.Prelude.{◌≡◌, ◌<◌, ◌≤◌, ◌+◌, ◌-◌, ◌%◌, ◌++◌, ◌∷◌, [], ◌↔◌, List, IsTrue, IsSome, IfSome, OnSome, length};
+ghost use Rattle.std.specs.Prelude.{◌≡◌, ℕ, ◌<◌, ◌≤◌, ◌+◌, ◌-◌, ◌%◌, ◌++◌, ◌∷◌, [], List, OnSome, IfSome, length};
 ghost use Rattle.std.specs.Option.{ForNone};
 ghost use Rattle.elf_image.specs.Layout.{stack_top};
 ghost use Rattle.rv_execute.specs.Harts.{state_of};
-ghost use Rattle.syscall_drain.specs.Tasks.{opening_hart};
-ghost use Rattle.syscall_drain.specs.Sound.{IsReady, HasGathered};
-ghost use Rattle.syscall_drain.specs.SoundProps.{IsReady-prop, HasGathered-prop};
+ghost use Rattle.record_lane.specs.Sound.{IsSoundRecord};
+ghost use Rattle.syscall_drain.specs.Locals.{opening_hart};
+ghost use Rattle.syscall_drain.specs.Sound.{IsSoundPhase};
+ghost use Rattle.syscall_drain.specs.SoundProps.{phase_prop};
 
-use crate::ask::{Answer, CoreAsk, Made};
-use crate::call::{EXIT, WRITE, call_number};
+use crate::answer::{place_claimed, taken_of};
+use crate::ask::{Answer, Made, NextUnit};
 use crate::end::End;
 use crate::gathered::Gathered;
 use crate::guest::Guest;
 use crate::local_core::LocalCore;
 use crate::phase::Phase;
-use crate::task::Task;
 use elf_image::Image;
 use rv_execute::{Hart, Op};
 
@@ -27,8 +27,7 @@ pub struct CoreState {
     ghost most: { budget ≤ 1048576 },
     ghost spent: { local.units ≤ budget },
     ghost going: { ForNone local.end (local.units < budget) },
-    ghost ready: { IsReady (state_of local.hart) local.phase } by { IsReady-prop (state_of local.hart) local.phase },
-    ghost gathers: { HasGathered (state_of local.hart) local.gathered local.phase } by { HasGathered-prop (state_of local.hart) local.gathered local.phase },
+    ghost sound: { IsSoundPhase (state_of local.hart) local.gathered local.phase } by { phase_prop (state_of local.hart) local.gathered local.phase },
 }
 
 /// The first stack pointer of a core, 32 bytes below the top of its stack.
@@ -56,15 +55,15 @@ fn opening_hart(image: &Image, core: u8) -> Hart
 
 impl CoreState {
     ghost use Rattle.elf_image.specs.Layout.{words_of};
-    ghost use Rattle.syscall_drain.specs.Tasks.{opening_local};
-    ghost use Rattle.syscall_drain.specs.Local.{Fits, next_ask, unit_record, answered, placed, taken_of};
-    ghost use Rattle.syscall_drain.specs.Made.{item_of};
-    ghost use Rattle.syscall_drain.specs.Built.{is_built, is_built_task};
-    ghost use Rattle.syscall_drain.specs.Sound.{due, IsSound, IsWithin};
-    ghost use Rattle.syscall_drain.specs.Cores.{local_of, budget_of, core_of, StandsAt};
+    ghost use Rattle.syscall_drain.specs.Locals.{opening_local};
+    ghost use Rattle.syscall_drain.specs.Units.{Fits, next_ask, answered, placed, taken_of};
+    ghost use Rattle.syscall_drain.specs.Records.{unit_record};
+    ghost use Rattle.syscall_drain.specs.Sound.{due, IsSound};
+    ghost use Rattle.syscall_drain.specs.Pieces.{PlacesBytes};
+    ghost use Rattle.syscall_drain.specs.Seen.{local_of, budget_of, core_of, item_made, IsNextUnit, StandsAt, HasSpent};
 
     /// A core before its first unit, with so many units to spend.
-    #[tactic(auto, unfolding(crate::specs::Tasks::opening_local, crate::specs::Local::local_after, crate::specs::Local::IsLocalRun))]
+    #[tactic(auto, unfolding(crate::specs::Locals::opening_local, crate::specs::Runs::local_after, crate::specs::Runs::IsLocalRun))]
     pub fn create(core: u8, guest: &Guest, budget: u32) -> CoreState
         requires core { core < guest.now.layout.cores }
         requires some { 1 ≤ budget }
@@ -88,69 +87,53 @@ impl CoreState {
         }
     }
 
-    /// What the next unit asks; `None` at the decision of a call that is not built yet.
-    #[tactic(auto, using(crate::proofs::Within::within_asked), unfolding(crate::specs::Local::next_ask, crate::specs::Built::is_built))]
-    pub fn next(&self, guest: &Guest) -> Option<CoreAsk>
-        ensures built { IsSome result ↔ IsTrue (is_built guest.now (local_of self.now)) }
-        ensures ask { IfSome result (λ ask. ask ≡ next_ask guest.now (local_of self.now)) }
-        ensures within { IfSome result (IsWithin (words_of guest.now.layout)) }
+    /// The next unit, with what it asks.
+    pub fn next(&self, guest: &Guest) -> NextUnit
+        ensures unit { IsNextUnit guest.now (local_of self.now) result }
         ensures sound { IsSound (local_of self.now) }
     {
-        let task = self.local.task(guest);
-        if self.is_built(task) {
-            Some(self.local.ask(task))
-        } else {
-            None
-        }
-    }
-
-    /// Whether this unit is built.
-    fn is_built(&self, task: Task) -> bool
-        ensures { result ≡ is_built_task (local_of self.now) task }
-    {
-        match task {
-            Task::Decide => {
-                let number = call_number(&self.local.hart);
-                number == WRITE || number == EXIT
-            }
-            _ => true,
-        }
-    }
-
-    fn spend(&mut self, guest: &Guest, given: Answer) -> Made
-        requires asked { Fits (next_ask guest.now (local_of self.old)) given }
-        requires numbered { (taken_of given).number < 4294967294 }
-        ensures step { local_of self.new ≡ answered guest.now (budget_of self.old) (local_of self.old) given }
-        ensures budget { budget_of self.new ≡ budget_of self.old }
-        ensures core { core_of self.new ≡ core_of self.old }
-        ensures item { result.item ≡ item_of (next_ask guest.now (local_of self.old)) (unit_record guest.now (local_of self.old) given) }
-        ensures placed { result.placed ≡ placed guest.now (local_of self.old) given }
-    {
-        self.local.unit(guest, self.budget, given)
+        self.local.next(guest)
     }
 
     /// Spends the next unit, with the answer to what it asked.
-    pub fn answer(&mut self, guest: &Guest, given: Answer) -> Made
-        requires asked { Fits (next_ask guest.now (local_of self.old)) given }
+    fn advance(&mut self, guest: &Guest, unit: NextUnit, given: Answer)
+        requires unit { IsNextUnit guest.now (local_of self.old) unit }
+        requires asked { Fits unit.ask given }
         requires numbered { (taken_of given).number < 4294967294 }
         ensures step { local_of self.new ≡ answered guest.now (budget_of self.old) (local_of self.old) given }
         ensures budget { budget_of self.new ≡ budget_of self.old }
         ensures core { core_of self.new ≡ core_of self.old }
-        ensures item { result.item ≡ item_of (next_ask guest.now (local_of self.old)) (unit_record guest.now (local_of self.old) given) }
-        ensures placed { result.placed ≡ placed guest.now (local_of self.old) given }
-
-        // Whatever its answers were so far, it stands after them and this one.
-        ensures stands { (answers : List Answer) → StandsAt guest.now self.old answers → StandsAt guest.now self.new (answers ++ given ∷ []) }
-
-        // At most four bytes more wait for their place, and none where the unit placed them.
-        ensures due { due (local_of self.new) ≤ due (local_of self.old) + 4 }
-        ensures claimed { OnSome result.placed (due (local_of self.new) ≡ 0) }
-
-        // It places all that wait, which are as many as it claimed.
-        ensures whole { OnSome result.placed (due (local_of self.old) ≡ length (local_of self.old).gathered) }
-        ensures claim { OnSome result.placed (next_ask guest.now (local_of self.old) ≡ CoreAsk.Touch 1 (Op.Place (length (local_of self.old).gathered))) }
     {
-        self.spend(guest, given)
+        self.local.unit(guest, self.budget, unit.task, given);
+    }
+
+    /// Spends the next unit, with the answer to what it asked, and gives the place in the output that it claimed.
+    pub fn spend(&mut self, guest: &Guest, unit: NextUnit, given: Answer) -> Option<u32>
+        requires unit { IsNextUnit guest.now (local_of self.old) unit }
+        requires asked { Fits unit.ask given }
+        requires numbered { (taken_of given).number < 4294967294 }
+        ensures spent { HasSpent guest.now self.old self.new given }
+        ensures placed { result ≡ placed guest.now (local_of self.old) given }
+        ensures output { PlacesBytes guest.now (local_of self.old) (local_of self.new) result }
+    {
+        self.advance(guest, unit, given);
+        place_claimed(unit.ask, given)
+    }
+
+    /// The same, and the record of the unit.
+    pub fn answer(&mut self, guest: &Guest, unit: NextUnit, given: Answer) -> Made
+        requires unit { IsNextUnit guest.now (local_of self.old) unit }
+        requires asked { Fits unit.ask given }
+        requires numbered { (taken_of given).number < 4294967294 }
+        ensures spent { HasSpent guest.now self.old self.new given }
+        ensures item { result.item ≡ item_made unit.ask (unit_record guest.now (local_of self.old) given) }
+        ensures sound { (top : ℕ) → (taken_of given).number < top → IfSome result.item (IsSoundRecord (words_of guest.now.layout) top) }
+        ensures placed { result.placed ≡ placed guest.now (local_of self.old) given }
+        ensures output { PlacesBytes guest.now (local_of self.old) (local_of self.new) result.placed }
+    {
+        let item = self.local.item(unit, taken_of(given));
+        let placed = self.spend(guest, unit, given);
+        Made { item, placed }
     }
 
     /// How the core ended, if it has.

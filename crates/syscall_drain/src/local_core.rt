@@ -1,53 +1,29 @@
 //! A core but for its number and its budget: its next unit, what that asks, and its record.
-ghost use Rattle.std.specs.Prelude.{◌≡◌};
-ghost use Rattle.syscall_drain.specs.Calls.{call_number as number_of_call};
-ghost use Rattle.syscall_drain.specs.Local.{taken_of, stop_of, stores, task_ask, task_record, task_place, touch};
-ghost use Rattle.syscall_drain.specs.Made.{item_of};
+ghost use Rattle.std.specs.Prelude.{◌≡◌, ℕ};
+ghost use Rattle.syscall_drain.specs.Records.{stores, why_of};
 
-use crate::ask::{Answer, CoreAsk};
-use crate::call::call_number;
+use crate::arguments::call_number;
+use crate::ask::{CoreAsk, NextUnit};
+use crate::break_call::break_task;
 use crate::end::End;
 use crate::gathered::Gathered;
 use crate::guest::Guest;
-use crate::instruction::phase_task;
+use crate::instruction::fetched_task;
 use crate::phase::Phase;
-use crate::task::Task;
+use crate::read_call::read_task;
+use crate::task::{AccessReason, QuietReason, Task};
+use crate::write_call::write_task;
 use record_lane::{MeetKind, Record, Why};
-use rv_decode::Insn;
-use rv_execute::{Hart, Op, Taken};
+use rv_execute::{Hart, Op, Taken, bytes_touched};
 
 /// A core but for its number and its budget.
 #[derive(Drop)]
-pub struct LocalCore {
+pub(crate) struct LocalCore {
     pub hart: Hart,
     pub phase: Phase,
     pub gathered: Gathered,
     pub units: u32,
     pub end: Option<End>,
-}
-
-/// What an access found, of an answer to one.
-pub fn taken_of(given: Answer) -> Taken
-    ensures { result ≡ taken_of given }
-{
-    match given {
-        Answer::Taken(taken) => taken,
-        Answer::Nothing | Answer::Reply(_) => Taken {
-            number: 0,
-            old: 0,
-            spent: false,
-        },
-    }
-}
-
-/// Whether a reply ends the core.
-pub fn stop_of(given: Answer) -> bool
-    ensures { result ≡ stop_of given }
-{
-    match given {
-        Answer::Reply(reply) => reply.stop,
-        Answer::Nothing | Answer::Taken(_) => false,
-    }
 }
 
 /// Whether an access stores, or is one that always does.
@@ -63,26 +39,42 @@ fn stores(op: Op, number: u32) -> bool
 impl LocalCore {
     ghost use Rattle.elf_image.specs.Layout.{words_of};
     ghost use Rattle.rv_execute.specs.Harts.{state_of};
-    ghost use Rattle.syscall_drain.specs.Tasks.{task_of};
-    ghost use Rattle.syscall_drain.specs.Sound.{IsSound, IsAskedBy, IsTaskWithin};
-    ghost use Rattle.syscall_drain.specs.LocalCores.{local_seen};
+    ghost use Rattle.syscall_drain.specs.Programs.{Program};
+    ghost use Rattle.syscall_drain.specs.Tasks.{phase_task, task_of};
+    ghost use Rattle.syscall_drain.specs.Units.{meeting, next_ask, task_ask};
+    ghost use Rattle.syscall_drain.specs.Records.{quiet_record, task_record};
+    ghost use Rattle.syscall_drain.specs.Sound.{IsSound, IsSoundPhase, IsSoundQuiet, IsSoundAccess, IsSoundTask};
+    ghost use Rattle.syscall_drain.specs.Seen.{local_seen, item_made, IsNextUnit};
 
-    /// The next unit.
+    /// The next unit of a core that has not ended.
+    fn phase_task(&self, guest: &Guest) -> Task
+        requires { IsSoundPhase (state_of self.now.hart) self.now.gathered self.now.phase }
+        ensures value { result ≡ phase_task guest.now (state_of self.now.hart) self.now.phase }
+        ensures sound { IsSoundTask (words_of guest.now.layout) (state_of self.now.hart) result }
+    {
+        match self.phase {
+            Phase::Running => fetched_task(guest.image(), &self.hart),
+            Phase::Reading(stage) => read_task(guest, &self.hart, stage),
+            Phase::Writing(stage) => write_task(guest, &self.hart, &self.gathered, stage),
+            Phase::Breaking => break_task(guest, &self.hart),
+            Phase::Returning(result_word) => Task::Quiet(QuietReason::Return(result_word)),
+        }
+    }
+
     #[tactic(auto, unfolding(crate::specs::Tasks::task_of))]
-    pub fn task(&self, guest: &Guest) -> Task
+    fn task(&self, guest: &Guest) -> Task
         requires { IsSound (local_seen self.now) }
         ensures value { result ≡ task_of guest.now (local_seen self.now) }
-        ensures asked { IsAskedBy (state_of self.now.hart) result }
-        ensures within { IsTaskWithin (words_of guest.now.layout) result }
+        ensures sound { IsSoundTask (words_of guest.now.layout) (state_of self.now.hart) result }
     {
         match self.end {
             Some(_) => Task::Over,
-            None => phase_task(guest, &self.hart, self.phase),
+            None => self.phase_task(guest),
         }
     }
 
     fn meeting(&self, kind: MeetKind) -> Record
-        ensures { result ≡ Record.Meet self.now.units self.now.hart.pc (number_of_call (state_of self.now.hart)) kind }
+        ensures { result ≡ meeting (local_seen self.now) kind }
     {
         Record::Meet {
             step: self.units,
@@ -92,32 +84,78 @@ impl LocalCore {
         }
     }
 
-    /// What this unit asks.
-    pub fn ask(&self, task: Task) -> CoreAsk
+    fn ask(&self, task: Task) -> CoreAsk
         ensures { result ≡ task_ask (local_seen self.now) task }
     {
         match task {
             Task::Over => CoreAsk::Ended,
-            Task::Blanked(_) | Task::Faulted(_, _) | Task::Plain(_) | Task::Return(_) => {
-                CoreAsk::Quiet
-            }
-            Task::Access(_, word, op) | Task::Claim(word, op) | Task::Fill(word, op, _) => {
-                CoreAsk::Touch { word, op }
-            }
-            Task::Gather(word) => CoreAsk::Touch { word, op: Op::Read },
-            Task::Decide => CoreAsk::Meet {
-                item: self.meeting(MeetKind::Call),
-            },
-            Task::Judge => CoreAsk::Meet {
-                item: self.meeting(MeetKind::Verdict),
+            Task::Quiet(_) => CoreAsk::Quiet,
+            Task::Access(word, op, _) => CoreAsk::Touch { word, op },
+            Task::Meeting(kind) => CoreAsk::Meet {
+                item: self.meeting(kind),
             },
         }
     }
 
-    fn touch(&self, word: u32, taken: Taken, why: Why) -> Record
-        ensures { result ≡ touch (local_seen self.now) word taken why }
+    /// The next unit, with what it asks.
+    #[tactic(auto, using(crate::proofs::Within::below_asked), unfolding(crate::specs::Units::next_ask))]
+    pub fn next(&self, guest: &Guest) -> NextUnit
+        requires { IsSound (local_seen self.now) }
+        ensures { IsNextUnit guest.now (local_seen self.now) result }
     {
-        let why = if taken.spent { Why::Spent } else { why };
+        let task = self.task(guest);
+        let ask = self.ask(task);
+        NextUnit { ask, task }
+    }
+
+    fn quiet_record(&self, reason: QuietReason) -> Record
+        ensures { result ≡ quiet_record (local_seen self.now) reason }
+    {
+        let step = self.units;
+        let pc = self.hart.pc;
+        match reason {
+            QuietReason::Blank(_) => Record::Blank { step, pc },
+            QuietReason::Faulted(_, insn) => Record::Quiet {
+                step,
+                pc,
+                insn,
+                faulted: true,
+            },
+            QuietReason::Plain(insn) => Record::Quiet {
+                step,
+                pc,
+                insn,
+                faulted: false,
+            },
+            QuietReason::Return(_) => Record::Back { step, pc },
+        }
+    }
+
+    fn why(&self, op: Op, number: u32, reason: AccessReason) -> Why
+        requires { IsSoundAccess (state_of self.now.hart) reason }
+        ensures { result ≡ why_of (local_seen self.now) op number reason }
+    {
+        match reason {
+            AccessReason::Insn(insn) => Why::Insn {
+                insn,
+                hit: stores(op, number),
+                bytes: bytes_touched(&self.hart, insn),
+            },
+            AccessReason::Fill(bytes) => Why::Fill { bytes },
+            AccessReason::Gather(bytes) => Why::Gather { bytes },
+            AccessReason::Claim => Why::Claim,
+        }
+    }
+
+    fn touch(&self, word: u32, op: Op, reason: AccessReason, taken: Taken) -> Record
+        requires { IsSoundAccess (state_of self.now.hart) reason }
+        ensures { result ≡ task_record (local_seen self.now) (Task.Access word op reason) taken }
+    {
+        let why = if taken.spent {
+            Why::Spent
+        } else {
+            self.why(op, taken.number, reason)
+        };
         Record::Touch {
             step: self.units,
             pc: self.hart.pc,
@@ -127,56 +165,27 @@ impl LocalCore {
         }
     }
 
-    fn quiet(&self, insn: Insn, faulted: bool) -> Record
-        ensures { result ≡ Record.Quiet self.now.units self.now.hart.pc insn faulted }
-    {
-        Record::Quiet {
-            step: self.units,
-            pc: self.hart.pc,
-            insn,
-            faulted,
-        }
-    }
-
-    /// The record of this unit, where it is no meeting.
-    pub fn item(&self, task: Task, taken: Taken) -> Option<Record>
-        ensures { result ≡ item_of (task_ask (local_seen self.now) task) (task_record (local_seen self.now) task taken) }
-    {
-        let step = self.units;
-        let pc = self.hart.pc;
-        match task {
-            Task::Over => Some(Record::End),
-            Task::Blanked(_) => Some(Record::Blank { step, pc }),
-            Task::Faulted(_, insn) => Some(self.quiet(insn, true)),
-            Task::Plain(insn) => Some(self.quiet(insn, false)),
-            Task::Access(insn, word, op) => {
-                let hit = stores(op, taken.number);
-                Some(self.touch(word, taken, Why::Insn { insn, hit }))
-            }
-            Task::Decide | Task::Judge => None,
-            Task::Claim(word, _) => Some(self.touch(word, taken, Why::Claim)),
-            Task::Fill(word, _, whole) => Some(self.touch(word, taken, Why::Fill { whole })),
-            Task::Gather(word) => Some(self.touch(word, taken, Why::Gather)),
-            Task::Return(_) => Some(Record::Back { step, pc }),
-        }
-    }
-
-    /// The place in the output that this unit claims.
-    pub fn place(&self, task: Task, taken: Taken) -> Option<u32>
-        ensures { result ≡ task_place task taken self.now.phase }
+    /// The record of this unit, whose access found this.
+    pub fn record(&self, task: Task, taken: Taken) -> Record
+        requires { (words : ℕ) × IsSoundTask words (state_of self.now.hart) task }
+        ensures { result ≡ task_record (local_seen self.now) task taken }
     {
         match task {
-            Task::Claim(_, _) => self.claimed_place(taken),
-            _ => None,
+            Task::Over => Record::End,
+            Task::Quiet(reason) => self.quiet_record(reason),
+            Task::Access(word, op, reason) => self.touch(word, op, reason, taken),
+            Task::Meeting(kind) => self.meeting(kind),
         }
     }
 
-    fn claimed_place(&self, taken: Taken) -> Option<u32>
-        ensures { result ≡ task_place (Task.Claim 0 Op.Read) taken self.now.phase }
+    /// The same, where the unit has not handed it over when it asked.
+    pub fn item(&self, unit: NextUnit, taken: Taken) -> Option<Record>
+        requires { (program : Program) × IsNextUnit program (local_seen self.now) unit }
+        ensures { result ≡ item_made unit.ask (task_record (local_seen self.now) unit.task taken) }
     {
-        match self.phase {
-            Phase::ClaimOutput => { if taken.spent { None } else { Some(taken.old) } }
-            _ => None,
+        match unit.ask {
+            CoreAsk::Meet { .. } => None,
+            _ => Some(self.record(unit.task, taken)),
         }
     }
 }

@@ -1,29 +1,42 @@
+use record_lane::MeetKind;
 use rv_decode::Insn;
 use rv_execute::{Fault, Op};
 
 /// What the next unit of a core is.
-#[derive(Clone, Copy)]
-pub enum Task {
+#[derive(Clone, Copy, Debug, PartialEq, Eq)]
+pub(crate) enum Task {
     /// None: the core has ended.
     Over,
+    /// A unit without an access.
+    Quiet(QuietReason),
+    /// A unit with an access to a word.
+    Access(u32, Op, AccessReason),
+    /// A meeting with the core's tag actor.
+    Meeting(MeetKind),
+}
+
+/// Why a unit has no access.
+#[derive(Clone, Copy, Debug, PartialEq, Eq)]
+pub(crate) enum QuietReason {
     /// A fault before an instruction is known or used.
-    Blanked(Fault),
+    Blank(Fault),
     /// A fault of an instruction.
     Faulted(Fault, Insn),
-    /// An instruction without an access.
+    /// An instruction that needs no access.
     Plain(Insn),
-    /// An instruction with an access to a word.
-    Access(Insn, u32, Op),
-    /// The decision of a call, its first meeting.
-    Decide,
-    /// The verdict of a write call, its second meeting.
-    Judge,
-    /// A call's claim on a device word.
-    Claim(u32, Op),
-    /// A store of a read call to a word of its buffer, and whether it stores the whole word.
-    Fill(u32, Op, bool),
-    /// A read of a write call of a word of its buffer.
-    Gather(u32),
     /// The return of a call, with its result.
     Return(u32),
+}
+
+/// Why a unit has an access. Bit i of a number of bytes is set where byte i of the word is touched.
+#[derive(Clone, Copy, Debug, PartialEq, Eq)]
+pub(crate) enum AccessReason {
+    /// An instruction.
+    Insn(Insn),
+    /// A store of a read call to these bytes of a word of its buffer.
+    Fill(u8),
+    /// A read of a write call of these bytes of a word of its buffer.
+    Gather(u8),
+    /// A call's claim on a device.
+    Claim,
 }

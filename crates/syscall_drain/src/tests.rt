@@ -1,5 +1,5 @@
 ghost use Rattle.std.specs.Prelude.{◌≡◌, IfSome};
-ghost use Rattle.syscall_drain.specs.Local.{Fits, taken_of};
+ghost use Rattle.syscall_drain.specs.Units.{Fits, taken_of};
 
 use super::*;
 use elf_image::load;
@@ -66,10 +66,10 @@ fn answer_to(ask: CoreAsk, word: u32) -> Option<Answer>
 
 /// Spends a unit, and says what it asked.
 fn spend(core: &mut CoreState, guest: &Guest, word: u32) -> Option<CoreAsk> {
-    let ask = core.next(guest)?;
-    let given = answer_to(ask, word)?;
-    core.answer(guest, given);
-    Some(ask)
+    let unit = core.next(guest);
+    let given = answer_to(unit.ask, word)?;
+    core.spend(guest, unit, given);
+    Some(unit.ask)
 }
 
 #[test]
@@ -114,7 +114,7 @@ fn hi_prints_and_exits(rt: HostRuntime) -> Result<(), Fail> {
     for ask in asks {
         assert_eq!(rt; spend(&mut core, &guest, 0x000a_6968), Some(ask));
     }
-    assert_eq!(rt; core.next(&guest), Some(CoreAsk::Ended));
+    assert_eq!(rt; core.next(&guest).ask, CoreAsk::Ended);
     assert_eq!(rt; core.end(), Some(End::Exit(0)));
     assert_eq!(rt; core.units(), 13);
     assert_eq!(rt; core.gathered(), b"hi\n".as_slice());
