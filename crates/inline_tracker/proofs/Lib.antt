@@ -1,6 +1,6 @@
 pub mod Lists
+pub mod Seating
 pub mod Standing
 pub mod Running
-pub mod Asking
 pub mod Beginning
 pub mod Finishing

@@ -1,7 +1,8 @@
 -- Facts on lists that the state of a run needs.
-use Rattle.std.proofs.Common.{◌≡◌, ℕ, ◌+◌, ◌||◌, Bool, List, [], ◌∷◌, ◌++◌, refl, ap, arith}
-use Rattle.std.specs.Prelude.{map}
+use Rattle.std.proofs.Common.{◌≡◌, ℕ, ◌+◌, ◌||◌, Bool, Option, Some, None, List, [], ◌∷◌, ◌++◌, refl, ap, ◌∙◌, arith}
+use Rattle.std.specs.Prelude.{map, IsSome, option_to_list}
 use Rattle.std.specs.List.{list_any, range_with_len}
+use Rattle.std.proofs.lemmas.List.{map-append}
 use Rattle.std.proofs.lemmas.List.FromFn.{map-range_with_len_more}
 
 -- some element of a mapped list passes where some element passes by its value
@@ -12,3 +13,13 @@ list_any_map p f (x ∷ xs) = ap (λ b. p (f x) || b) (list_any_map p f xs)
 -- a list by place with one place more
 pub map_more : {A : Type 0} (f : ℕ → A) (n : ℕ) → map f (range_with_len 0 (n + 1)) ≡ map f (range_with_len 0 n) ++ f n ∷ []
 map_more f n = map-range_with_len_more f 0 n n (omega arith)
+
+-- one more element that is there
+pub some_more : {A : Type 0} (xs : List A) (ys : List (Option A)) (more : Option A) → map Some xs ≡ ys → IsSome more → map Some (xs ++ option_to_list more) ≡ ys ++ more ∷ []
+some_more xs ys None are some = absurd (cc)
+some_more xs ys (Some x) are some = map-append Some xs (x ∷ []) ∙ ap (λ (zs : List _). zs ++ Some x ∷ []) are
+
+-- two maps are one
+pub map_twice : {A B C : Type 0} (g : B → C) (f : A → B) (xs : List A) → map g (map f xs) ≡ map (λ x. g (f x)) xs
+map_twice g f [] = refl
+map_twice g f (x ∷ xs) = ap (λ ys. g (f x) ∷ ys) (map_twice g f xs)

@@ -1,6 +1,5 @@
+pub mod Outcomes
+pub mod Seen
 pub mod Cells
 pub mod Seats
 pub mod Standing
-pub mod Steps
-pub mod Outcome
-pub mod Finished

@@ -1,13 +1,10 @@
 //! A run with one more unit.
-ghost use Rattle.std.specs.Prelude.{◌≡◌, ℕ, ◌+◌, ◌<◌, ◌≤◌, [], ◌∷◌, ◌++◌, length, None};
-ghost use Rattle.rv_execute.specs.declared.op.Op.{Op};
-ghost use Rattle.record_lane.specs.declared.record.Record.{Record};
+ghost use Rattle.std.specs.Prelude.{◌≡◌, ◌+◌, ◌<◌, ◌≤◌, [], ◌∷◌, ◌++◌, length};
 ghost use Rattle.syscall_drain.specs.declared.ask.CoreAsk.TheVariants.{Quiet as AsksNothing, Touch as Touches, Meet as Meets};
-ghost use Rattle.syscall_drain.specs.Local.{next_ask};
-ghost use Rattle.inline_tracker.specs.Standing.{Stands, core_along, bytes_placed};
+ghost use Rattle.syscall_drain.specs.Pieces.{bytes_placed};
+ghost use Rattle.inline_tracker.specs.Standing.{Stands, IsTurnOf};
 ghost use Rattle.inline_tracker.specs.Seats.{local_in};
 
-use crate::memory::access;
 use crate::run::Run;
 use crate::seat::Seat;
 use crate::setup::Setup;
@@ -15,32 +12,31 @@ use crate::unit::{meet, quiet, take};
 use order_core::Bytes;
 use record_lane::Record;
 use rv_execute::Op;
+use syscall_drain::{CoreAsk, NextUnit};
 
 /// A unit that asks for nothing.
-pub(crate) fn quiet_unit(run: &mut Run, setup: &Setup, core: u8)
+fn quiet_unit(run: &mut Run, setup: &Setup, core: u8, unit: NextUnit)
     requires stands { Stands setup.now run.old }
-    requires core { core < length run.old.seats.items }
-    requires running { (core_along setup.now run.old core).local.ending ≡ None }
-    requires asked { next_ask setup.now.program (core_along setup.now run.old core).local ≡ AsksNothing }
+    requires turn { IsTurnOf setup.now run.old core unit }
+    requires asked { unit.ask ≡ AsksNothing }
     ensures stands { Stands setup.now run.new }
     ensures order { run.new.order.items ≡ run.old.order.items ++ core ∷ [] }
 {
     let seat = &mut run.seats[core as usize];
-    quiet(seat, setup);
+    quiet(seat, setup, unit);
     run.order.push(core);
 }
 
 /// A meeting.
-pub(crate) fn meeting_unit(run: &mut Run, setup: &Setup, core: u8, item: Record)
+fn meeting_unit(run: &mut Run, setup: &Setup, core: u8, unit: NextUnit, item: Record)
     requires stands { Stands setup.now run.old }
-    requires core { core < length run.old.seats.items }
-    requires running { (core_along setup.now run.old core).local.ending ≡ None }
-    requires asked { next_ask setup.now.program (core_along setup.now run.old core).local ≡ Meets item }
+    requires turn { IsTurnOf setup.now run.old core unit }
+    requires asked { unit.ask ≡ Meets item }
     ensures stands { Stands setup.now run.new }
     ensures order { run.new.order.items ≡ run.old.order.items ++ core ∷ [] }
 {
     let seat = &mut run.seats[core as usize];
-    meet(seat, setup, item);
+    meet(seat, setup, unit, item);
     run.order.push(core);
 }
 
@@ -65,18 +61,31 @@ fn put_out(output: &mut Bytes, seat: &Seat, place: Option<u32>)
 }
 
 /// A unit with an access to this word.
-pub(crate) fn access_unit(run: &mut Run, setup: &Setup, core: u8, word: u32, op: Op)
+fn access_unit(run: &mut Run, setup: &Setup, core: u8, unit: NextUnit, word: u32, op: Op)
     requires stands { Stands setup.now run.old }
-    requires core { core < length run.old.seats.items }
-    requires word { word < length run.old.cells.items }
-    requires running { (core_along setup.now run.old core).local.ending ≡ None }
-    requires asked { next_ask setup.now.program (core_along setup.now run.old core).local ≡ Touches word op }
+    requires turn { IsTurnOf setup.now run.old core unit }
+    requires asked { unit.ask ≡ Touches word op }
     ensures stands { Stands setup.now run.new }
     ensures order { run.new.order.items ≡ run.old.order.items ++ core ∷ [] }
 {
-    let taken = access(&mut run.cells, word, op, setup.limit());
     let seat = &mut run.seats[core as usize];
-    let place = take(seat, setup, word, taken);
+    let cell = &mut run.cells[word as usize];
+    let place = take(seat, cell, setup, unit, word, op);
     put_out(&mut run.output, seat, place);
     run.order.push(core);
+}
+
+/// Spends this unit of a core.
+pub(crate) fn spend(run: &mut Run, setup: &Setup, core: u8, unit: NextUnit)
+    requires stands { Stands setup.now run.old }
+    requires turn { IsTurnOf setup.now run.old core unit }
+    ensures stands { Stands setup.now run.new }
+    ensures order { run.new.order.items ≡ run.old.order.items ++ core ∷ [] }
+{
+    match unit.ask {
+        CoreAsk::Quiet => quiet_unit(run, setup, core, unit),
+        CoreAsk::Touch { word, op } => access_unit(run, setup, core, unit, word, op),
+        CoreAsk::Meet { item } => meeting_unit(run, setup, core, unit, item),
+        CoreAsk::Ended => unreachable!(),
+    }
 }

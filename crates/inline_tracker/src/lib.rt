@@ -2,6 +2,7 @@
 #![tactic(auto)]
 
 mod advance;
+mod ending;
 mod finished;
 mod memory;
 mod opening;

@@ -1,21 +1,21 @@
-//! The words of a run.
-ghost use Rattle.std.specs.Prelude.{◌≡◌, ◌<◌, ◌-◌, ◌^◌, if◌then◌else◌, length, map, IfOk};
+//! The words of a run, each with its tag.
+ghost use Rattle.std.specs.Prelude.{◌≡◌, ◌<◌, ◌-◌, ◌^◌, if◌then◌else◌, map, IfOk};
 ghost use Rattle.rv_execute.specs.Payloads.{changed};
 ghost use Rattle.std.specs.List.{range_with_len};
-ghost use Rattle.std.specs.Vec.{with_item};
 ghost use Rattle.elf_image.specs.Layout.{words_of};
-ghost use Rattle.inline_tracker.specs.Cells.{first_cell, cell_of, found, cell_after};
+ghost use Rattle.inline_tracker.specs.Cells.{first_cell, cell_found, cell_after};
 
 use elf_image::Image;
 use order_core::NoMemory;
 use rv_execute::{Op, Taken, apply};
 use std::alloc::Global;
 
-/// One word: what it holds, and how many accesses it has had.
+/// One word: what it holds, how many accesses it has had, and its tag word.
 #[derive(Clone, Copy)]
-pub struct Cell {
+pub(crate) struct Cell {
     payload: u32,
     count: u32,
+    tag: u32,
 }
 
 /// The words that a run begins with.
@@ -29,8 +29,11 @@ pub(crate) fn first_cells(alloc: Global, image: &Image) -> Result<Vec<Cell>, NoM
         return Err(NoMemory);
     };
     for word in 0..words {
-        let payload = image.first_word(word);
-        let cell = Cell { payload, count: 0 };
+        let cell = Cell {
+            payload: image.first_word(word),
+            count: 0,
+            tag: 0,
+        };
         let Ok(()) = cells.push(cell) else {
             return Err(NoMemory);
         };
@@ -49,22 +52,30 @@ fn payload_left(op: Op, taken: Taken) -> u32
     }
 }
 
-/// One access to a word. From the limit on it is spent, and raises the count alone.
-pub(crate) fn access(cells: &mut Vec<Cell>, word: u32, op: Op, limit: u32) -> Taken
-    requires word { word < length cells.old.items }
-    requires count { (cell_of cells.old.items word).count < 2 ^ 32 - 1 }
-    ensures found { result ≡ found limit (cell_of cells.old.items word) }
-    ensures after { cells.new ≡ with_item cells.old word (cell_after limit op (cell_of cells.old.items word)) }
-{
-    let cell = cells[word as usize];
-    let taken = Taken {
-        number: cell.count,
-        old: cell.payload,
-        spent: cell.count >= limit,
-    };
-    cells[word as usize] = Cell {
-        payload: payload_left(op, taken),
-        count: cell.count + 1,
-    };
-    taken
+impl Cell {
+    /// One access. From the limit on it is spent, and raises the count alone.
+    pub(crate) fn access(&mut self, op: Op, limit: u32) -> Taken
+        requires { self.old.count < 2 ^ 32 - 1 }
+        ensures found { result ≡ cell_found limit self.old }
+        ensures after { self.new ≡ cell_after limit op self.old }
+    {
+        let taken = Taken {
+            number: self.count,
+            old: self.payload,
+            spent: self.count >= limit,
+        };
+        self.payload = payload_left(op, taken);
+        self.count += 1;
+        taken
+    }
+
+    /// The operation of an access on the tag word, which is handed out as it was.
+    pub(crate) fn serve(&mut self, op: Op, number: u32) -> u32
+        ensures found { result ≡ self.old.tag }
+        ensures after { self.new ≡ record self.old { tag = changed op number self.old.tag } }
+    {
+        let old = self.tag;
+        self.tag = apply(op, number, old);
+        old
+    }
 }

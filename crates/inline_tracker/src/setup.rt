@@ -1,40 +1,43 @@
-ghost use Rattle.std.specs.Prelude.{◌≡◌, ◌≤◌, []};
-ghost use Rattle.machine.specs.Setups.{Setup as Seen};
+ghost use Rattle.std.specs.Prelude.{◌≡◌, ◌≤◌};
 
 use std::marker::Model;
 use syscall_drain::Guest;
+use tag_policy::Policy;
 
-/// What a run is a run of: a guest, the units that each of its cores may spend, and the number from which
-/// on an access to a word is spent. There is no policy yet, so no tag is ever set.
+/// What a run is a run of: a guest, a policy, the units that each of its cores may spend, and the number from which
+/// on an access to a word is spent.
 #[derive(Drop)]
 pub struct Setup {
     guest: Guest,
+    policy: Policy,
     budget: u32,
     limit: u32,
 }
 
 impl Model for Setup {
-    ghost use Rattle.std.specs.Prelude.{◌≤◌, []};
-    ghost use Rattle.machine.specs.Setups.{Setup as Seen, AreLimits};
+    ghost use Rattle.tag_policy.specs.Policies.{policy_in};
+    ghost use Rattle.machine.specs.Setups.{Setup as SetupSeen, IsSetup};
 
-    ghost Value = { Seen };
+    ghost Value = { SetupSeen };
 
-    ghost view = { λ setup. record { program = setup.guest; policy = []; budget = setup.budget; limit = setup.limit } };
+    ghost view = { λ setup. record { program = setup.guest; policy = policy_in setup.policy; budget = setup.budget; limit = setup.limit } };
 
-    ghost invariant = { λ setup. AreLimits setup.budget setup.limit };
+    ghost invariant = { λ setup. IsSetup (record { program = setup.guest; policy = policy_in setup.policy; budget = setup.budget; limit = setup.limit }) };
 }
 
 impl Setup {
-    ghost use Rattle.machine.specs.Setups.{AreLimits};
+    ghost use Rattle.tag_policy.specs.Policies.{policy_in};
+    ghost use Rattle.machine.specs.Setups.{IsSetup, core_count};
 
-    /// A run of the guest in which each core may spend `budget` units, 1 to 1,048,576, and each word has accesses of
-    /// numbers below `limit`, 1 to 4,294,967,280.
-    pub fn new(guest: Guest, budget: u32, limit: u32) -> Setup
-        requires { AreLimits budget limit }
-        ensures { result ≡ record { program = guest; policy = []; budget = budget; limit = limit } }
+    /// A run of the guest under the policy in which each core may spend `budget` units, and each word has accesses of
+    /// numbers below `limit`.
+    pub fn new(guest: Guest, policy: Policy, budget: u32, limit: u32) -> Setup
+        requires { IsSetup (record { program = guest; policy = policy_in policy; budget = budget; limit = limit }) }
+        ensures { result ≡ record { program = guest; policy = policy_in policy; budget = budget; limit = limit } }
     {
         Setup {
             guest,
+            policy,
             budget,
             limit,
         }
@@ -43,24 +46,28 @@ impl Setup {
     /// The program and its input.
     pub fn guest(&self) -> &Guest
         ensures guest { result.now ≡ self.now.program }
-        ensures unruled { self.now.policy ≡ [] }
+        ensures ranges { IsSetup self.now }
     {
         &self.guest
     }
 
-    /// The most units of each core.
+    /// The policy of its tags.
+    pub fn policy(&self) -> &Policy
+        ensures { policy_in result.now ≡ self.now.policy }
+    {
+        &self.policy
+    }
+
+    /// The most units of each core: 1 to 1,048,576.
     pub fn budget(&self) -> u32
-        ensures budget { result ≡ self.now.budget }
-        ensures within { (1 ≤ result) × (result ≤ 1048576) }
-        ensures limits { AreLimits self.now.budget self.now.limit }
+        ensures { result ≡ self.now.budget }
     {
         self.budget
     }
 
     /// The first access number of a word that is spent.
     pub fn limit(&self) -> u32
-        ensures limit { result ≡ self.now.limit }
-        ensures within { (1 ≤ result) × (result ≤ 4294967280) }
+        ensures { result ≡ self.now.limit }
     {
         self.limit
     }

@@ -7,9 +7,6 @@ pub enum StepFault {
     Ended,
     /// There is no such core.
     NoSuchCore,
-    /// The core's next unit is of a kind that is not built yet: the decision of a system call other than
-    /// write and exit.
-    Later,
 }
 
 /// What became of a step.

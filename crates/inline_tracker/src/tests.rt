@@ -3,6 +3,7 @@ use elf_image::load;
 use std::alloc::Global;
 use std::test::Fail;
 use syscall_drain::{End, Guest};
+use tag_policy::Policy;
 
 /// A program at 0x10000 that writes `hi` and exits: the file's header, its one program header, ten words.
 const HI: [u32; 31] = [
@@ -47,7 +48,7 @@ fn setup_of(alloc: Global, words: &[u32]) -> Result<Setup, Fail> {
     }
     let image = load(alloc, &bytes, 1, 16, 256)?;
     let guest = Guest::new(image, Vec::new(alloc));
-    Ok(Setup::new(guest, 1_048_576, 4_294_967_280))
+    Ok(Setup::new(guest, Policy::standard(), 1_048_576, 4_294_967_280))
 }
 
 #[test]
@@ -66,9 +67,20 @@ fn hi_is_stepped_to_its_end(rt: HostRuntime) -> Result<(), Fail> {
     assert_eq!(rt; outcome.end, End::Exit(0));
     assert_eq!(rt; outcome.units, 13);
     assert_eq!(rt; outcome.trap, None);
-    let finished = tracker.finish().ok().ok_or("is not finished")?;
+    let mut finished = tracker.finish().ok().ok_or("is not finished")?;
     assert_eq!(rt; finished.output().as_slice(), b"hi\n".as_slice());
-    assert_eq!(rt; finished.order().as_slice(), [0; 13].as_slice());
+    assert_eq!(rt; finished.units(), 13);
+    for round in 0..2 {
+        for unit in 0..13 {
+            assert_eq!(rt;
+                finished.next_core(),
+                Some(0),
+                "unit {unit} of round {round}"
+            );
+        }
+        assert_eq!(rt; finished.next_core(), None, "round {round}");
+        finished.rewind();
+    }
     assert_eq!(rt; status_of(&finished), 0);
     Ok(())
 }
@@ -81,24 +93,5 @@ fn a_core_that_has_not_ended_is_not_finished(rt: HostRuntime) -> Result<(), Fail
         assert_eq!(rt; tracker.step(0), Stepped::Went, "unit {unit}");
     }
     assert!(rt; tracker.finish().is_err());
-    Ok(())
-}
-
-#[test]
-fn a_call_that_is_not_built_changes_nothing(rt: HostRuntime) -> Result<(), Fail> {
-    // The fifth word of the program sets the number of its first call: 57 in place of 64.
-    let mut words = HI;
-    words[25] = 0x0390_0893;
-    let setup = setup_of(rt.alloc(), &words)?;
-    let mut tracker = Tracker::create(rt.alloc(), &setup)?;
-    // The unit of the call itself decides it, so that only the five before it go.
-    for unit in 0..5 {
-        assert_eq!(rt; tracker.step(0), Stepped::Went, "unit {unit}");
-    }
-    let later = Stepped::Refused(StepFault::Later);
-    for attempt in 0..2 {
-        assert_eq!(rt; tracker.step(0), later, "attempt {attempt}");
-        assert!(rt; tracker.outcome(0).is_none(), "attempt {attempt}");
-    }
     Ok(())
 }

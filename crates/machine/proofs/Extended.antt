@@ -2,7 +2,7 @@
 use Rattle.std.proofs.Common.{◌≡◌, ℕ, ◌<◌, true, false, None, List, [], ◌∷◌, ◌++◌, refl, ap, ◌∙◌, eqb, if◌then◌else◌}
 use Rattle.order_core.specs.declared.entry.Entry.{Entry}
 use Rattle.order_core.specs.Marked.{Marked, part_of}
-use Rattle.machine.specs.Setups.{Setup, cores_of}
+use Rattle.machine.specs.Setups.{Setup, core_count}
 use Rattle.machine.specs.States.{State, opening}
 use Rattle.machine.specs.Steps.{step}
 use Rattle.machine.specs.Runs.{run, along, IsPlayableFrom, entries_from, entry_at, log_along}
@@ -12,7 +12,7 @@ unfolding run
 run_more s t [] c = refl
 run_more s t (d ∷ order) c = run_more s (step s t d) order c
 
-pub playable_more : (s : Setup) (t : State) (order : List ℕ) (c : ℕ) → IsPlayableFrom s t order → c < cores_of s → ((run s t order).cores c).local.ending ≡ None → IsPlayableFrom s t (order ++ c ∷ [])
+pub playable_more : (s : Setup) (t : State) (order : List ℕ) (c : ℕ) → IsPlayableFrom s t order → c < core_count s → ((run s t order).cores c).local.ending ≡ None → IsPlayableFrom s t (order ++ c ∷ [])
 unfolding run IsPlayableFrom
 playable_more s t [] c h below running = (below, running, tt)
 playable_more s t (d ∷ order) c h below running = (h.0, h.1, playable_more s (step s t d) order c h.2 below running)

@@ -38,3 +38,7 @@ pass_words = 0x00000513 ∷ 0x000115b7 ∷ 0x00400613 ∷ 0x03f00893 ∷ 0x00000
 -- writes the five bytes that it read to an odd place
 abbrev pub odd_words : List ℕ
 odd_words = 0x00000513 ∷ 0x000115b7 ∷ 0x00258593 ∷ 0x00500613 ∷ 0x03f00893 ∷ 0x00000073 ∷ 0x00100513 ∷ 0x04000893 ∷ 0x00000073 ∷ 0x00000513 ∷ 0x05d00893 ∷ 0x00000073 ∷ []
+
+-- reads one byte, and jumps by the byte beside it
+abbrev pub beside_words : List ℕ
+beside_words = 0x00000513 ∷ 0x000115b7 ∷ 0x00100613 ∷ 0x03f00893 ∷ 0x00000073 ∷ 0x0015c283 ∷ 0x00010337 ∷ 0x006282b3 ∷ 0x02828067 ∷ 0x00000013 ∷ 0x00000513 ∷ 0x05d00893 ∷ 0x00000073 ∷ []

@@ -1,13 +1,9 @@
 pub mod Images
-pub mod Rows
-pub mod Extended
-pub mod Untagged
-pub mod Output
 pub mod SetAt
-pub mod Units
+pub mod Extended
+pub mod Output
+pub mod ByAsk
 pub mod Reached
-pub mod Plain
-pub mod OffOutput
-pub mod Placed
+pub mod Written
 pub mod Along
-pub mod Kept
+mod Rows

@@ -1,5 +1,5 @@
 -- The definitions tried on guest programs by computation: how each ends, what its accesses find, and what its calls see.
-use Rattle.std.proofs.Common.{◌≡◌, ℕ, Bool, true, false, Option, Some, None, List, [], ◌∷◌, ◌++◌, drop, replicate, refl}
+use Rattle.std.proofs.Common.{◌≡◌, ℕ, true, false, Option, Some, None, List, [], ◌∷◌, ◌++◌, drop, replicate, refl}
 use Rattle.std.specs.Prelude.{map, slice_get, slice_set}
 use Rattle.std.specs.List.{last_or, flat_map}
 use Rattle.record_lane.specs.declared.record.MeetKind.TheVariants.{Call, Verdict}
@@ -13,48 +13,43 @@ use Rattle.record_lane.specs.declared.note.CallNote.{CallNote}
 use Rattle.syscall_drain.specs.declared.end.End.{End}
 use Rattle.syscall_drain.specs.declared.end.End.TheVariants.{Exit, Trapped, Fault, Budget, Spent}
 use Rattle.order_core.specs.declared.entry.Entry.{Entry}
-use Rattle.tag_policy.specs.Rules.{Rules, no_rules, Or}
+use Rattle.tag_policy.specs.declared.rules.Version.{Version}
+use Rattle.tag_policy.specs.declared.rules.Version.TheVariants.{WordTags, ByteTags}
+use Rattle.tag_policy.specs.declared.rules.Rules.{Rules}
+use Rattle.tag_policy.specs.Policies.{standard_rules}
 use Rattle.elf_image.specs.Elf.{program_headers, segments}
 use Rattle.elf_image.specs.Layout.{is_mapped, is_writable_page, is_executable_page, count_below, nth_from, word_of, is_writable, word_at, address_of, first_word, fetched, entry_of}
 use Rattle.syscall_drain.specs.Buffers.{fill}
-use Rattle.syscall_drain.specs.Tasks.{opening_local, task_of}
-use Rattle.syscall_drain.specs.Local.{next_ask, answered, unit_record, placed}
+use Rattle.syscall_drain.specs.Locals.{opening_local}
+use Rattle.syscall_drain.specs.Tasks.{task_of}
+use Rattle.syscall_drain.specs.Units.{next_ask, answered, placed}
+use Rattle.syscall_drain.specs.Records.{unit_record}
+use Rattle.rv_execute.specs.Touched.{bytes_touched}
 use Rattle.rv_execute.specs.Instructions.{asked, resumed}
 use Rattle.tag_registers.specs.Tags.{no_tags, tags_after, word_tag, reply_of}
 use Rattle.machine.specs.Setups.{Setup}
 use Rattle.machine.specs.Steps.{core_given, touched, quiet, took, left, step}
-use Rattle.machine.specs.Runs.{run, along, log_along, entries_from}
+use Rattle.machine.specs.Runs.{run, along, log_along, entry_at, entries_from}
 use Rattle.machine.specs.Outcomes.{summaries, output, status_class}
-use Rattle.machine.proofs.Images.{image_of, hi_words, lrsc_words, count_words, jump_words, pass_words, odd_words}
+use Rattle.machine.proofs.Images.{image_of, hi_words, lrsc_words, count_words, jump_words, pass_words, odd_words, beside_words}
 
--- the standard policy, and one with the check on the output alone
-abbrev standard : Rules
-standard = record no_rules {
-  source = true;
-  arith = Or;
-  logic = Or;
-  shift = Or;
-  compare = Or;
-  muldiv = Or;
-  load_data = true;
-  store_data = true;
-  check_jump = true;
-  check_call_number = true;
-}
-
+-- the standard rules, and those with the check on the output alone
 abbrev check_sink : Rules
-check_sink = record standard { check_jump = false; check_call_number = false; check_sink = true }
+check_sink = record standard_rules { check_jump = false; check_call_number = false; check_sink = true }
 
-abbrev setup : List ℕ → List ℕ → Rules → ℕ → ℕ → ℕ → Setup
-setup words input rules cores budget limit = record {
+abbrev setup_of : Version → List ℕ → List ℕ → Rules → ℕ → ℕ → ℕ → Setup
+setup_of version words input rules cores budget limit = record {
   program = record { layout = record { bytes = image_of words; cores = cores; stack = 16; heap = 256 }; input = input };
-  policy = rules ∷ [];
+  policy = record { version = version; rules = rules ∷ [] };
   budget = budget;
   limit = limit;
 }
 
+abbrev setup : List ℕ → List ℕ → Rules → ℕ → ℕ → ℕ → Setup
+setup words input rules cores budget limit = setup_of WordTags words input rules cores budget limit
+
 abbrev usual : List ℕ → List ℕ → Setup
-usual words input = setup words input standard 1 1048576 4294967280
+usual words input = setup words input standard_rules 1 1048576 4294967280
 
 -- a unit with an access, and one without
 abbrev access : ℕ → ℕ → ℕ → Entry
@@ -100,16 +95,27 @@ abbrev hi : Setup
 hi = usual hi_words []
 
 abbrev lrsc : Setup
-lrsc = setup lrsc_words [] standard 2 1048576 4294967280
+lrsc = setup lrsc_words [] standard_rules 2 1048576 4294967280
 
 abbrev jump : ℕ → Setup
-jump budget = setup jump_words (0x20 ∷ 0 ∷ 1 ∷ 0 ∷ []) standard 1 budget 4294967280
+jump budget = setup jump_words (0x20 ∷ 0 ∷ 1 ∷ 0 ∷ []) standard_rules 1 budget 4294967280
 
 abbrev pass : Setup
 pass = setup pass_words (97 ∷ 98 ∷ 99 ∷ 100 ∷ []) check_sink 1 1048576 4294967280
 
 abbrev odd : Setup
 odd = usual odd_words (65 ∷ 66 ∷ 67 ∷ 68 ∷ 69 ∷ [])
+
+-- the same under a policy with a tag for each byte
+abbrev odd_bytes : Setup
+odd_bytes = setup_of ByteTags odd_words (65 ∷ 66 ∷ 67 ∷ 68 ∷ 69 ∷ []) standard_rules 1 1048576 4294967280
+
+-- reads one byte, and jumps to the clean byte beside it
+abbrev beside : Version → Setup
+beside version = setup_of version beside_words (0 ∷ []) standard_rules 1 1048576 4294967280
+
+abbrev tag_along : Setup → List ℕ → ℕ → ℕ
+tag_along s order word = ((along s order).words word).tag
 
 -- the store of word `index` of a read call that puts its five bytes into the odd buffer
 abbrev odd_fill : ℕ → Op
@@ -133,8 +139,8 @@ abbrev turns : List ℕ
 turns = 0 ∷ 1 ∷ 0 ∷ 1 ∷ 0 ∷ 1 ∷ 0 ∷ 1 ∷ 0 ∷ 0 ∷ 0 ∷ []
 
 -- the tag of a word after a store of a read call
-abbrev filled : Bool → ℕ → ℕ
-filled whole found = word_tag (check_sink ∷ []) no_tags (Touch 0 0 3 0 (Fill whole)) found
+abbrev filled : ℕ → ℕ → ℕ
+filled bytes found = word_tag (record { version = WordTags; rules = check_sink ∷ [] }) no_tags (Touch 0 0 3 0 (Fill bytes)) found
 
 record Worked : Type 0 where
   hi_prints_and_exits : summaries hi (along hi (zeros 13)) ≡ record {
@@ -176,12 +182,17 @@ record Worked : Type 0 where
   odd_buffer_ends : endings odd (zeros 21) ≡ exits 0 21 ∷ []
   odd_buffer_log : drop 6 (log_along odd (zeros 21) 0) ≡
       access 0 0 0 ∷ access 1027 0 0 ∷ access 1028 0 0 ∷ times 4 no_access ++ access 1027 1 0x42410000 ∷ access 1028 1 0x00454443 ∷ no_access ∷ access 1 0 0 ∷ times 4 no_access
-  part_of_a_word_joins_its_tag : (filled false 2 ≡ 3) × (filled true 2 ≡ 1)
+  part_of_a_word_joins_its_tag : (filled 14 2 ≡ 3) × (filled 15 2 ≡ 1)
+  odd_buffer_tags : (tag_along odd (zeros 21) 1027 ≡ 1) × (tag_along odd (zeros 21) 1028 ≡ 1)
+  odd_buffer_byte_tags : (tag_along odd_bytes (zeros 21) 1027 ≡ 0x1100) × (tag_along odd_bytes (zeros 21) 1028 ≡ 0x0111)
+  odd_bytes_end : endings odd_bytes (zeros 21) ≡ exits 0 21 ∷ []
+  byte_beside_a_read_one_has_its_words_tag : endings (beside WordTags) (zeros 15) ≡ (Some Trapped, 15, Some (trap 11 0x10020 1 1)) ∷ []
+  byte_beside_a_read_one_has_no_byte_tag : endings (beside ByteTags) (zeros 15) ≡ exits 0 15 ∷ []
   count_ends : endings (usual count_words []) (zeros 3006) ≡ exits 0 3006 ∷ []
-  spent_accesses_end_both : endings (setup count_words [] standard 2 1048576 1) turns ≡ (Some Spent, 7, None) ∷ (Some Spent, 4, None) ∷ []
-  spent_numbers : slice_get (log_along (setup count_words [] standard 2 1048576 1) turns 0) 6 ≡ Some (access 1027 2 1)
-  spent_number_of_the_other : slice_get (log_along (setup count_words [] standard 2 1048576 1) turns 1) 3 ≡ Some (access 1027 1 1)
-  spent_class : class_along (setup count_words [] standard 2 1048576 1) turns ≡ 5
+  spent_accesses_end_both : endings (setup count_words [] standard_rules 2 1048576 1) turns ≡ (Some Spent, 7, None) ∷ (Some Spent, 4, None) ∷ []
+  spent_numbers : slice_get (log_along (setup count_words [] standard_rules 2 1048576 1) turns 0) 6 ≡ Some (access 1027 2 1)
+  spent_number_of_the_other : slice_get (log_along (setup count_words [] standard_rules 2 1048576 1) turns 1) 3 ≡ Some (access 1027 1 1)
+  spent_class : class_along (setup count_words [] standard_rules 2 1048576 1) turns ≡ 5
   no_instruction_faults : endings (usual (0 ∷ []) []) (zeros 1) ≡ (Some (Fault Illegal), 1, None) ∷ []
   breakpoint_faults : endings (usual (0x00100073 ∷ []) []) (zeros 1) ≡ (Some (Fault Break), 1, None) ∷ []
   fault_class : class_along (usual (0 ∷ []) []) (zeros 1) ≡ 3
@@ -189,7 +200,7 @@ record Worked : Type 0 where
   break_log : slice_get (log_along break (zeros 8) 0) 3 ≡ Some (access 2 0 0x00011000)
 
 worked : Worked
-unfolding program_headers segments is_mapped is_writable_page is_executable_page count_below nth_from word_of is_writable word_at address_of first_word fetched entry_of run step touched quiet took left core_given next_ask answered unit_record placed task_of opening_local asked resumed tags_after word_tag reply_of entries_from output status_class
+unfolding bytes_touched entry_at program_headers segments is_mapped is_writable_page is_executable_page count_below nth_from word_of is_writable word_at address_of first_word fetched entry_of run step touched quiet took left core_given next_ask answered unit_record placed task_of opening_local asked resumed tags_after word_tag reply_of entries_from output status_class
 worked = record {
   hi_prints_and_exits = refl;
   hi_output = refl;
@@ -224,6 +235,11 @@ worked = record {
   odd_buffer_ends = refl;
   odd_buffer_log = refl;
   part_of_a_word_joins_its_tag = (refl, refl);
+  odd_buffer_tags = (refl, refl);
+  odd_buffer_byte_tags = (refl, refl);
+  odd_bytes_end = refl;
+  byte_beside_a_read_one_has_its_words_tag = refl;
+  byte_beside_a_read_one_has_no_byte_tag = refl;
   count_ends = refl;
   spent_accesses_end_both = refl;
   spent_numbers = refl;

@@ -3,3 +3,4 @@ pub mod States
 pub mod Steps
 pub mod Runs
 pub mod Outcomes
+pub mod FinishedRuns

@@ -5,8 +5,10 @@ use Rattle.record_lane.specs.declared.reply.Trap.{Trap}
 use Rattle.record_lane.specs.declared.note.CallNote.{CallNote}
 use Rattle.syscall_drain.specs.declared.end.End.{End}
 use Rattle.syscall_drain.specs.declared.end.End.TheVariants.{Exit, Fault, Budget, Spent}
-use Rattle.machine.specs.Setups.{Setup, cores_of}
-use Rattle.machine.specs.States.{Core, Piece, Word, State}
+use Rattle.machine.specs.Setups.{Setup, core_count}
+use Rattle.elf_image.specs.declared.device.TheConstants.{OUTPUT_WORD}
+use Rattle.syscall_drain.specs.Pieces.{Piece}
+use Rattle.machine.specs.States.{Core, Word, State}
 
 pub record Summary : Type 0 where
   pub ending : Option End
@@ -19,28 +21,28 @@ summary_of c = record { ending = c.local.ending; units = c.local.units; trap = c
 
 -- the cores' summaries in their order
 abbrev pub summaries : Setup → State → List Summary
-summaries s t = map (λ c. summary_of (t.cores c)) (range_with_len 0 (cores_of s))
+summaries s t = map (λ c. summary_of (t.cores c)) (range_with_len 0 (core_count s))
 
 -- the bytes of pieces, end to end
-abbrev pub joined : List Piece → List ℕ
-joined [] = []
-joined (piece ∷ pieces) = piece.bytes ++ joined pieces
+abbrev pub bytes_in : List Piece → List ℕ
+bytes_in [] = []
+bytes_in (piece ∷ pieces) = piece.bytes ++ bytes_in pieces
 
 -- the byte at a place of the output: the piece that has the place has it
-abbrev pub holds : Piece → ℕ → Bool
-holds piece place = nat_le piece.place place && nat_lt place (piece.place + length piece.bytes)
+abbrev pub has_place : Piece → ℕ → Bool
+has_place piece place = nat_le piece.place place && nat_lt place (piece.place + length piece.bytes)
 
-abbrev pub byte_at : List Piece → ℕ → ℕ
-byte_at [] place = 0
-byte_at (piece ∷ pieces) place =
-    if holds piece place then slice_index piece.bytes (place - piece.place) else byte_at pieces place
+abbrev pub output_byte : List Piece → ℕ → ℕ
+output_byte [] place = 0
+output_byte (piece ∷ pieces) place =
+    if has_place piece place then slice_index piece.bytes (place - piece.place) else output_byte pieces place
 
 -- the output: as long as the word of the output device says
 abbrev pub output_of : Word → List ℕ
-output_of w = map (byte_at w.pieces) (range_with_len 0 w.payload)
+output_of w = map (output_byte w.pieces) (range_with_len 0 w.payload)
 
 unfoldable pub output : State → List ℕ
-output t = output_of (t.words 1)
+output t = output_of (t.words OUTPUT_WORD)
 
 -- ---- the status class
 

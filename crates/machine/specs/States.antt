@@ -4,18 +4,14 @@ use Rattle.std.specs.Prelude.{ℕ, List, []}
 use Rattle.elf_image.specs.Layout.{first_word}
 use Rattle.record_lane.specs.declared.note.CallNote.{CallNote}
 use Rattle.tag_registers.specs.Tags.{Tags, no_tags}
-use Rattle.syscall_drain.specs.Tasks.{Local, opening_local}
+use Rattle.syscall_drain.specs.Locals.{Local, opening_local}
+use Rattle.syscall_drain.specs.Pieces.{Piece}
 use Rattle.machine.specs.Setups.{Setup}
 
 pub record Core : Type 0 where
   pub local : Local
   pub tags : Tags
   pub notes : List CallNote
-
--- bytes of output, and their place in it
-pub record Piece : Type 0 where
-  pub place : ℕ
-  pub bytes : List ℕ
 
 -- the pieces of output stand with the word that they were claimed on, in the order of their claims
 pub record Word : Type 0 where

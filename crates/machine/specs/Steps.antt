@@ -13,38 +13,40 @@ use Rattle.syscall_drain.specs.declared.ask.CoreAsk.{CoreAsk}
 use Rattle.syscall_drain.specs.declared.ask.CoreAsk.TheVariants.{Quiet as AsksNothing, Touch as Touches, Meet as Meets, Ended}
 use Rattle.syscall_drain.specs.declared.ask.Answer.{Answer}
 use Rattle.syscall_drain.specs.declared.ask.Answer.TheVariants.{Nothing, Taken as Took, Reply as Replied}
-use Rattle.syscall_drain.specs.Local.{next_ask, unit_record, answered, placed}
+use Rattle.syscall_drain.specs.Units.{next_ask, answered, placed}
+use Rattle.syscall_drain.specs.Records.{unit_record}
+use Rattle.syscall_drain.specs.Pieces.{piece_at}
 use Rattle.order_core.specs.SetAt.{set_at}
 use Rattle.machine.specs.Setups.{Setup}
-use Rattle.machine.specs.States.{Core, Piece, Word, State}
+use Rattle.machine.specs.States.{Core, Word, State}
 
 -- ---- one core by itself
 
--- what a unit is given from outside its core: nothing, or what its access found and the tag there
-pub data Given : Type 0 where
-  NoAccess : Given
-  Accessed : Taken → ℕ → Given
+-- what a unit finds outside its core: nothing, or what its access found and the tag there
+pub data Finding : Type 0 where
+  NoAccess : Finding
+  Accessed : Taken → ℕ → Finding
 
-abbrev pub access_answer : Given → Answer
+abbrev pub access_answer : Finding → Answer
 access_answer NoAccess = Nothing
 access_answer (Accessed t tag) = Took t
 
-abbrev pub tag_found : Given → ℕ
+abbrev pub tag_found : Finding → ℕ
 tag_found NoAccess = 0
 tag_found (Accessed t tag) = tag
 
-abbrev pub record_given : Setup → Core → Given → Record
-record_given s c given = unit_record s.program c.local (access_answer given)
+abbrev pub record_given : Setup → Core → Finding → Record
+record_given s c finding = unit_record s.program c.local (access_answer finding)
 
-abbrev pub tags_given : Setup → Core → Given → Tags
-tags_given s c given = tags_after s.policy c.tags (record_given s c given) (tag_found given)
+abbrev pub tags_given : Setup → Core → Finding → Tags
+tags_given s c finding = tags_after s.policy c.tags (record_given s c finding) (tag_found finding)
 
 -- the answer to what a unit asks: its access, or the reply of the tags after its row
-abbrev pub answer_to : CoreAsk → Given → Tags → Answer
-answer_to AsksNothing given after = Nothing
-answer_to (Touches word op) given after = access_answer given
-answer_to (Meets item) given after = Replied (reply_of after)
-answer_to Ended given after = Nothing
+abbrev pub answer_to : CoreAsk → Finding → Tags → Answer
+answer_to AsksNothing finding after = Nothing
+answer_to (Touches word op) finding after = access_answer finding
+answer_to (Meets item) finding after = Replied (reply_of after)
+answer_to Ended finding after = Nothing
 
 -- a meeting leaves a note
 abbrev pub note_of : Record → Tags → List CallNote
@@ -58,18 +60,18 @@ notes_of (Touches word op) after = []
 notes_of (Meets item) after = note_of item after
 notes_of Ended after = []
 
-unfoldable pub core_given : Setup → Core → Given → Core
-core_given s c given = record {
-  local = answered s.program s.budget c.local (answer_to (next_ask s.program c.local) given (tags_given s c given));
-  tags = tags_given s c given;
-  notes = c.notes ++ notes_of (next_ask s.program c.local) (tags_given s c given);
+unfoldable pub core_given : Setup → Core → Finding → Core
+core_given s c finding = record {
+  local = answered s.program s.budget c.local (answer_to (next_ask s.program c.local) finding (tags_given s c finding));
+  tags = tags_given s c finding;
+  notes = c.notes ++ notes_of (next_ask s.program c.local) (tags_given s c finding);
 }
 
 -- ---- one core and one word
 
 -- what an access to a word finds: its number is the count of accesses, and from the limit on it is spent
-abbrev pub told : Setup → Word → Taken
-told s w = record { number = w.count; old = w.payload; spent = nat_le s.limit w.count }
+abbrev pub found_in : Setup → Word → Taken
+found_in s w = record { number = w.count; old = w.payload; spent = nat_le s.limit w.count }
 
 abbrev pub word_asked : CoreAsk → Option ℕ
 word_asked AsksNothing = None
@@ -92,24 +94,19 @@ unfoldable pub quiet : Setup → Core → Core
 quiet s c = core_given s c NoAccess
 
 unfoldable pub took : Setup → Core → Word → Core
-took s c w = core_given s c (Accessed (told s w) w.tag)
-
--- a claim on the output leaves a piece
-abbrev pub pieces_of : Option ℕ → List ℕ → List Piece
-pieces_of None bytes = []
-pieces_of (Some place) bytes = record { place = place; bytes = bytes } ∷ []
+took s c w = core_given s c (Accessed (found_in s w) w.tag)
 
 abbrev pub word_changed : Setup → Core → Word → Word
 word_changed s c w = record {
   count = w.count + 1;
   payload = changed (op_asked (next_ask s.program c.local)) w.count w.payload;
-  tag = word_tag s.policy c.tags (record_given s c (Accessed (told s w) w.tag)) w.tag;
-  pieces = w.pieces ++ pieces_of (placed s.program c.local (Took (told s w))) c.local.gathered;
+  tag = word_tag s.policy c.tags (record_given s c (Accessed (found_in s w) w.tag)) w.tag;
+  pieces = w.pieces ++ piece_at (placed s.program c.local (Took (found_in s w))) c.local.gathered;
 }
 
 -- the word after the access: a spent one raises the count alone
 unfoldable pub left : Setup → Core → Word → Word
-left s c w = if (told s w).spent then record w { count = w.count + 1 } else word_changed s c w
+left s c w = if (found_in s w).spent then record w { count = w.count + 1 } else word_changed s c w
 
 -- ---- the machine
 

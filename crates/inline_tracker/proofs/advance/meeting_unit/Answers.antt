@@ -1,22 +1,43 @@
-use Rattle.machine.proofs.Plain.{meeting_touches_nothing}
+use Rattle.syscall_drain.specs.declared.ask.CoreAsk.TheVariants.{Meet as Meets}
+use Rattle.machine.proofs.ByAsk.{meeting_touches_nothing}
 use Rattle.inline_tracker.specs.Standing.{core_along}
+use Rattle.inline_tracker.proofs.Seating.{asks_of}
 use Rattle.inline_tracker.proofs.Standing.{quiet_stands}
-use Rattle.inline_tracker.proofs.Running.{room_in, seat_notes}
+use Rattle.inline_tracker.proofs.Running.{room_in, at_seat}
 use Rattle.inline_tracker.proofs.advance.meeting_unit.Goals as goal
 
-pub meet-requires-clause-notes : goal.meet-requires-clause-notes
-meet-requires-clause-notes c = seat_notes c.args.setup.now c.args.run.now c.args.core c.index_mut-seat.result.now c.requires.stands c.requires.core c.index_mut-seat.ensures.value
+pub meet-requires-clause-seated : goal.meet-requires-clause-seated
+meet-requires-clause-seated c = (at_seat c.args.setup.now c.args.run.now c.args.core c.args.unit c.index_mut-seat.result.now c.requires.stands c.requires.turn c.index_mut-seat.ensures.value).seated
+
+pub meet-requires-clause-room : goal.meet-requires-clause-room
+meet-requires-clause-room c = (at_seat c.args.setup.now c.args.run.now c.args.core c.args.unit c.index_mut-seat.result.now c.requires.stands c.requires.turn c.index_mut-seat.ensures.value).room
+
+pub meet-requires-clause-unit : goal.meet-requires-clause-unit
+meet-requires-clause-unit c = (at_seat c.args.setup.now c.args.run.now c.args.core c.args.unit c.index_mut-seat.result.now c.requires.stands c.requires.turn c.index_mut-seat.ensures.value).next
+
+pub meet-requires-clause-sound : goal.meet-requires-clause-sound
+meet-requires-clause-sound c = (at_seat c.args.setup.now c.args.run.now c.args.core c.args.unit c.index_mut-seat.result.now c.requires.stands c.requires.turn c.index_mut-seat.ensures.value).sound
 
 pub push-requires : goal.push-requires
-push-requires c = room_in c.args.setup.now c.args.run.now c.args.core c.requires.stands c.requires.core c.requires.running
+push-requires c = room_in c.args.setup.now c.args.run.now c.args.core c.args.unit c.requires.stands c.requires.turn
 
 pub returns-clause-stands : goal.returns-clause-stands
 returns-clause-stands c =
+    let s = c.args.setup.now in
     let run = c.args.run.now in
     let stands = c.requires.stands in
-    let none = meeting_touches_nothing c.args.setup.now (core_along c.args.setup.now run c.args.core) c.args.item c.requires.asked in
+    let turn = c.requires.turn in
+    let asks = asks_of s.program (core_along s run c.args.core).local c.args.unit (Meets c.args.item) turn.next.is c.requires.asked in
+    let none = meeting_touches_nothing s (core_along s run c.args.core) c.args.item asks in
     record {
-      along_order = rw c.push.ensures (quiet_stands c.args.setup.now run.order.items run.seats.items run.cells.items run.output.items c.args.core c.index_mut-seat.result.now c.meet.new.seat stands.along_order c.requires.core c.index_mut-seat.ensures.value c.requires.running none c.meet.ensures.core c.meet.ensures.log c.meet.ensures.seated);
+      along_order = rw c.push.ensures (quiet_stands s run.order.items run.seats.items run.cells.items run.output.items c.args.core c.index_mut-seat.result.now c.meet.new.seat stands.along_order turn.core c.index_mut-seat.ensures.value turn.running none c.meet.ensures.core c.meet.ensures.log c.meet.ensures.seated);
       order_room = rw c.push.ensures stands.order_room;
       output_room = stands.output_room;
+      log_room = stands.log_room;
+      outcome_room = stands.outcome_room;
+      no_logs = stands.no_logs;
+      no_outcomes = stands.no_outcomes;
     }
+
+pub meet-requires-clause-notes : goal.meet-requires-clause-notes
+meet-requires-clause-notes c = (at_seat c.args.setup.now c.args.run.now c.args.core c.args.unit c.index_mut-seat.result.now c.requires.stands c.requires.turn c.index_mut-seat.ensures.value).notes
