@@ -1,3 +1,13 @@
-pub mod Lines
+pub mod Digits
+pub mod Names
+pub mod Fields
 pub mod Text
-pub mod Pieces
+pub mod Left
+pub mod Writing
+pub mod Difference
+pub mod Forms
+pub mod Reading
+pub mod Saved
+pub mod ReportLaws
+pub mod Matching
+pub mod Walking

@@ -1,20 +1,16 @@
--- The report text of a setup and an order: the numbers of the setup, a line for each unit with its access, then the
--- notes, the traps and the ends of the cores. The format is this project's own.
-use Rattle.std.specs.Prelude.{ℕ, suc, Bool, true, false, Option, Some, None, List, [], ◌∷◌, ◌++◌, length, sum_by, count_by, is_some, codes, decimal}
+-- The report of a setup and an order: the lines that it has, and the text that these make. The format is this project's own.
+use Rattle.std.specs.Prelude.{ℕ, suc, Option, Some, None, List, [], ◌∷◌, ◌++◌, map, length}
 use Rattle.std.specs.List.{flat_map}
-use Rattle.rv_execute.specs.Faults.{fault_number}
-use Rattle.record_lane.specs.declared.record.MeetKind.{MeetKind}
-use Rattle.record_lane.specs.declared.record.MeetKind.TheVariants.{Call, Verdict}
-use Rattle.record_lane.specs.declared.note.CallNote.{CallNote}
-use Rattle.record_lane.specs.declared.reply.Trap.{Trap}
-use Rattle.syscall_drain.specs.declared.end.End.{End}
-use Rattle.syscall_drain.specs.declared.end.End.TheVariants.{Exit, Trapped, Fault, Budget, Spent}
-use Rattle.order_core.specs.declared.entry.Access.{Access}
 use Rattle.order_core.specs.Marked.{Marked}
-use Rattle.machine.specs.Setups.{Setup, cores_of}
+use Rattle.machine.specs.Setups.{Setup, core_count}
 use Rattle.machine.specs.Runs.{along, entries}
 use Rattle.machine.specs.Outcomes.{Summary, summaries}
-use Rattle.trap_report.specs.Lines.{line, hex}
+use Rattle.trap_report.specs.Fields.{line_text}
+use Rattle.trap_report.specs.declared.report_line.HeaderLine.TheVariants.{Cores, Budget, Limit, Stack, Heap}
+use Rattle.trap_report.specs.declared.report_line.Section.{Section}
+use Rattle.trap_report.specs.declared.report_line.Section.TheVariants.{Units, Calls, Traps, Ends}
+use Rattle.trap_report.specs.declared.report_line.ReportLine.{ReportLine}
+use Rattle.trap_report.specs.declared.report_line.ReportLine.TheVariants.{Version, Header, Count, UnitOf, NoteOf, TrapOf, EndOf, Last}
 
 -- what a report tells: the numbers of its setup, the units in their order, and how each core ended
 pub record Numbers : Type 0 where
@@ -29,90 +25,51 @@ pub record Report : Type 0 where
   pub units : List Marked
   pub cores : List Summary
 
--- ---- the header
+abbrev pub header_lines : Numbers → List ReportLine
+header_lines numbers =
+    Header Cores numbers.cores ∷ Header Budget numbers.budget ∷ Header Limit numbers.limit ∷ Header Stack numbers.stack ∷ Header Heap numbers.heap ∷ []
 
-abbrev pub counted : List ℕ → ℕ → List ℕ
-counted name number = line name (decimal number ∷ [])
+abbrev pub unit_lines : List Marked → List ReportLine
+unit_lines units = map (λ unit. UnitOf unit.0 unit.1) units
 
-abbrev pub header_text : Numbers → List ℕ
-header_text numbers =
-    line (codes "taint-report 1") [] ++ counted (codes "cores") numbers.cores ++ counted (codes "budget") numbers.budget
-    ++ counted (codes "limit") numbers.limit ++ counted (codes "stack") numbers.stack ++ counted (codes "heap") numbers.heap
+-- the lines of each core in turn, where the first is the core with this number
+abbrev pub by_core : (ℕ → Summary → List ReportLine) → ℕ → List Summary → List ReportLine
+by_core lines core [] = []
+by_core lines core (summary ∷ summaries) = lines core summary ++ by_core lines (suc core) summaries
 
--- ---- the units
+abbrev pub note_lines : ℕ → Summary → List ReportLine
+note_lines core summary = map (NoteOf core) summary.notes
 
-abbrev pub touch_fields : Option Access → List (List ℕ)
-touch_fields None = []
-touch_fields (Some access) = decimal access.word ∷ decimal access.number ∷ hex 8 access.found ∷ []
+-- one line where there is something to tell, and else none
+abbrev pub line_if : {T : Type 0} → (T → ReportLine) → Option T → List ReportLine
+line_if line None = []
+line_if line (Some told) = line told ∷ []
 
-abbrev pub unit_line : Marked → List ℕ
-unit_line unit = line (decimal unit.0) (touch_fields (unit.1).touch)
+abbrev pub trap_lines : ℕ → Summary → List ReportLine
+trap_lines core summary = line_if (TrapOf core) summary.trap
 
-abbrev pub unit_text : List Marked → List ℕ
-unit_text units = counted (codes "units") (length units) ++ flat_map unit_line units
+abbrev pub end_lines : ℕ → Summary → List ReportLine
+end_lines core summary = line_if (EndOf core) summary.ending
 
--- ---- the notes, the traps and the ends, by core
+-- a section: how many lines it has, and these lines
+abbrev pub section_lines : Section → List ReportLine → List ReportLine
+section_lines section lines = Count section (length lines) ∷ lines
 
--- the text of each core in turn, where the first is the core with this number
-abbrev pub by_core : (ℕ → Summary → List ℕ) → ℕ → List Summary → List ℕ
-by_core text core [] = []
-by_core text core (summary ∷ summaries) = text core summary ++ by_core text (suc core) summaries
-
-abbrev pub kind_name : MeetKind → List ℕ
-kind_name Call = codes "call"
-kind_name Verdict = codes "sink"
-
-abbrev pub verdict_name : Bool → List ℕ
-verdict_name false = codes "go"
-verdict_name true = codes "stop"
-
--- what the reply was to a call
-abbrev pub reply_fields : CallNote → List (List ℕ)
-reply_fields note = decimal note.call ∷ hex 32 note.tags ∷ hex 1 note.buffer ∷ verdict_name note.stop ∷ []
-
-abbrev pub note_line : ℕ → CallNote → List ℕ
-note_line core note = line (decimal core) (decimal note.step ∷ hex 8 note.pc ∷ kind_name note.kind ∷ reply_fields note)
-
-abbrev pub note_lines : ℕ → Summary → List ℕ
-note_lines core summary = flat_map (note_line core) summary.notes
-
-abbrev pub call_text : List Summary → List ℕ
-call_text cores = counted (codes "calls") (sum_by (λ core. length core.notes) cores) ++ by_core note_lines 0 cores
-
-abbrev pub trap_line : ℕ → Option Trap → List ℕ
-trap_line core None = []
-trap_line core (Some trap) = line (decimal core) (decimal trap.step ∷ hex 8 trap.pc ∷ decimal trap.kind ∷ hex 1 trap.bits ∷ [])
-
-abbrev pub trap_text : List Summary → List ℕ
-trap_text cores = counted (codes "traps") (count_by (λ core. is_some core.trap) cores) ++ by_core (λ core summary. trap_line core summary.trap) 0 cores
-
--- a core that has not ended has no field here
-abbrev pub end_fields : Option End → List (List ℕ)
-end_fields None = []
-end_fields (Some (Exit code)) = codes "exit" ∷ decimal code ∷ []
-end_fields (Some Trapped) = codes "trapped" ∷ []
-end_fields (Some (Fault fault)) = codes "fault" ∷ decimal (fault_number fault) ∷ []
-end_fields (Some Budget) = codes "budget" ∷ []
-end_fields (Some Spent) = codes "spent" ∷ []
-
-abbrev pub end_line : ℕ → Option End → List ℕ
-end_line core ending = line (decimal core) (end_fields ending)
-
-abbrev pub end_text : List Summary → List ℕ
-end_text cores = counted (codes "ends") (length cores) ++ by_core (λ core summary. end_line core summary.ending) 0 cores
-
--- ---- the whole text
-
-abbrev pub report_text : Report → List ℕ
-report_text report =
-    header_text report.numbers ++ unit_text report.units ++ call_text report.cores ++ trap_text report.cores
-    ++ end_text report.cores ++ line (codes "end") []
+-- all lines of a report
+abbrev pub lines_of : Report → List ReportLine
+lines_of report =
+    (Version ∷ header_lines report.numbers)
+    ++ (section_lines Units (unit_lines report.units)
+    ++ (section_lines Calls (by_core note_lines 0 report.cores)
+    ++ (section_lines Traps (by_core trap_lines 0 report.cores)
+    ++ (section_lines Ends (by_core end_lines 0 report.cores)
+    ++ Last ∷ []))))
 
 abbrev pub numbers_of : Setup → Numbers
-numbers_of s = record { cores = cores_of s; budget = s.budget; limit = s.limit; stack = s.program.layout.stack; heap = s.program.layout.heap }
+numbers_of s = record { cores = core_count s; budget = s.budget; limit = s.limit; stack = s.program.layout.stack; heap = s.program.layout.heap }
 
 unfoldable pub report_of : Setup → List ℕ → Report
 report_of s order = record { numbers = numbers_of s; units = entries s order; cores = summaries s (along s order) }
 
 unfoldable pub text : Setup → List ℕ → List ℕ
-text s order = report_text (report_of s order)
+text s order = flat_map line_text (lines_of (report_of s order))

@@ -1,29 +1,22 @@
 //! Where in a report the next line is.
 
-/// A line of the header, or the one that counts the units.
-#[derive(Clone, Copy, Debug, PartialEq, Eq)]
-pub enum HeaderLine {
-    Version,
-    Cores,
-    Budget,
-    Limit,
-    Stack,
-    Heap,
-    Units,
-}
+use crate::report_line::HeaderLine;
 
 /// What the next line of a report tells.
 #[derive(Clone, Copy, Debug, PartialEq, Eq)]
-pub enum Place {
-    Header(HeaderLine),
+pub enum LinePlace {
+    AtVersion,
+    AtHeader(HeaderLine),
+    /// The count of units.
+    AtUnits,
     /// The unit at this place of the order, or, past the last one, the count of notes.
-    UnitAt(usize),
-    /// The note at a place of a core's notes, or, past the last core, the count of traps.
-    NoteAt { core: u8, note: usize },
-    /// The trap of this core, or, past the last core, the count of ends.
-    TrapOf(u8),
+    AtUnit(usize),
+    /// The first note from this place of a core's notes on, or, past the last one, the count of traps.
+    AtNote { core: u8, note: usize },
+    /// The first trap from this core on, or, past the last one, the count of ends.
+    AtTrap(u8),
     /// The end of this core, or, past the last core, the report's last line.
-    EndOf(u8),
+    AtEnd(u8),
     /// Nothing is left.
     Done,
 }
