@@ -1,14 +1,14 @@
 -- Where an image can run and no count rose, each ending of a command is the class of its run or want of memory.
-use Rattle.std.proofs.Common.{◌≡◌, ℕ, ◌<◌, ◌⊎◌, inl, inr, List, length, Some, true, false, refl, sym, ◌∙◌, ap, arith}
+use Rattle.std.proofs.Common.{◌≡◌, ℕ, ◌<◌, ◌⊎◌, inl, inr, List, length, Some, refl, ◌∙◌, ap, arith}
 use Rattle.machine.specs.Runs.{along, IsComplete}
 use Rattle.machine.specs.Outcomes.{status_class}
 use Rattle.run_cli.specs.Words.{RunsImage}
-use Rattle.run_cli.specs.Runs.{setup_of, turns, Stops}
-use Rattle.run_cli.specs.Endings.{FilesSeen, SinksSeen, IsImage, IsShort, IsLater, IsLong, IsOfOtherForm, HasStopped, HasRun, Ended, CutOutput, CutReport, status_of}
+use Rattle.run_cli.specs.Runs.{setup_of, turns}
+use Rattle.run_cli.specs.Endings.{FilesSeen, SinksSeen, IsImage, IsShort, IsLater, IsLong, IsOfOtherForm, HasRun, Ended, CutOutput, CutReport, status_of}
 use Rattle.run_cli.specs.Completeness.{CanRun, NothingRose, Completes, class_after}
 use Rattle.run_cli.specs.declared.ending.Ending.{Ending}
 use Rattle.run_cli.specs.declared.ending.Ending.TheVariants.{Class, Words, Image, Later, Memory, Read, Write}
-use Rattle.run_cli.proofs.Turns.{complete_once, stops_before_end}
+use Rattle.run_cli.proofs.Turns.{complete_once}
 
 -- the words name one image, and its bytes are those that are told
 same_name : (words : List (List ℕ)) (one other : List ℕ) → RunsImage words one → RunsImage words other → one ≡ other
@@ -23,8 +23,8 @@ same_bytes words old bytes other count can image =
 class_is : (words : List (List ℕ)) (old new : FilesSeen) (bytes other : List ℕ) (count units class : ℕ) → CanRun words old bytes count → HasRun words old new other units → class ≡ status_class (setup_of other) (along (setup_of other) (turns units)) → class ≡ class_after bytes count
 class_is words old new bytes other count units class can run is =
     let same : other ≡ bytes = same_bytes words old bytes other count can run.image in
-    let ends : IsComplete (setup_of bytes) (turns units) = rw same at run.ends.complete in
-    let units_are : units ≡ count = complete_once (setup_of bytes) (omega arith) units count ends can.run.complete in
+    let ends : IsComplete (setup_of bytes) (turns units) = rw same at run.ends in
+    let units_are : units ≡ count = complete_once (setup_of bytes) (omega arith) units count ends can.run in
     is ∙ ap (λ (file : List ℕ). class_after file units) same ∙ ap (class_after bytes) units_are
 
 -- the image is not refused
@@ -42,19 +42,11 @@ not_long words old bytes count can long =
 not_other : (words : List (List ℕ)) (old : FilesSeen) (bytes : List ℕ) (count : ℕ) → CanRun words old bytes count → IsOfOtherForm words old → ⊥
 not_other words old bytes count can form = form.other (rw (same_bytes words old bytes form.bytes count can form.image) can.small)
 
-not_stopped : (words : List (List ℕ)) (old : FilesSeen) (bytes : List ℕ) (count : ℕ) → CanRun words old bytes count → HasStopped words old → ⊥
-not_stopped words old bytes count can stopped =
-    let stops : Stops (setup_of bytes) stopped.count = rw (same_bytes words old bytes stopped.bytes count can stopped.image) at stopped.stops in
-    let before : stopped.count < count = stops_before_end (setup_of bytes) (omega arith) stopped.count count stops can.run.complete in
-    let clash : true ≡ false = sym (can.run.built stopped.count before) ∙ stops.not_built in
-    cc
-
 not_later : (words : List (List ℕ)) (old new : FilesSeen) (bytes : List ℕ) (count : ℕ) → CanRun words old bytes count → IsLater words old new → ⊥
 not_later words old new bytes count can later =
     elim later.cause [
       | inl long ↦ not_long words old bytes count can long
-      | inr (inl form) ↦ not_other words old bytes count can form
-      | inr (inr stopped) ↦ not_stopped words old bytes count can stopped
+      | inr form ↦ not_other words old bytes count can form
     ]
 
 -- a write was not cut

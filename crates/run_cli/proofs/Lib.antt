@@ -4,6 +4,6 @@ pub mod SmallHeaders
 pub mod SmallMap
 pub mod SmallFaults
 pub mod Turns
-pub mod EndOrStop
+pub mod Ends
 pub mod Completing
 pub mod Delivering

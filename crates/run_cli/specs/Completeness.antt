@@ -1,11 +1,11 @@
 -- When a command answers the class of a run or want of memory, and nothing else.
 use Rattle.std.specs.Prelude.{◌≡◌, ℕ, ◌⊎◌, List, Some}
 use Rattle.outside.specs.Faults.{Rose}
-use Rattle.machine.specs.Runs.{along}
+use Rattle.machine.specs.Runs.{along, IsComplete}
 use Rattle.machine.specs.Outcomes.{status_class}
 use Rattle.run_cli.specs.Words.{RunsImage}
 use Rattle.run_cli.specs.SmallImage.{IsSmallImage}
-use Rattle.run_cli.specs.Runs.{setup_of, turns, IsBuiltRun}
+use Rattle.run_cli.specs.Runs.{setup_of, turns}
 use Rattle.run_cli.specs.Endings.{FilesSeen, SinksSeen}
 
 -- the words name an image, it is told that these are its bytes, and they are a small image whose run has so many units
@@ -14,7 +14,7 @@ pub record CanRun (words : List (List ℕ)) (old : FilesSeen) (bytes : List ℕ)
   pub named : RunsImage words name
   pub told : old.held name ≡ Some bytes
   pub small : IsSmallImage bytes
-  pub run : IsBuiltRun (setup_of bytes) count
+  pub run : IsComplete (setup_of bytes) (turns count)
 
 -- no count of faults rose
 pub record NothingRose (old new : FilesSeen) (sinks_old sinks_new : SinksSeen) : Type 0 where

@@ -4,12 +4,12 @@ use Rattle.outside.specs.Faults.{Rose}
 use Rattle.outside.specs.Files.{IsTold}
 use Rattle.outside.specs.Sinks.{SinkSeen, Untouched, Wrote, Cut, Told}
 use Rattle.machine.specs.Setups.{Setup}
-use Rattle.machine.specs.Runs.{along}
+use Rattle.machine.specs.Runs.{along, IsComplete}
 use Rattle.machine.specs.Outcomes.{output, status_class}
 use Rattle.trap_report.specs.Text.{text}
 use Rattle.run_cli.specs.Words.{RunsImage}
 use Rattle.run_cli.specs.SmallImage.{IsSmallImage}
-use Rattle.run_cli.specs.Runs.{setup_of, turns, IsBuiltRun, Stops}
+use Rattle.run_cli.specs.Runs.{setup_of, turns}
 use Rattle.run_cli.specs.declared.ending.Ending.{Ending}
 use Rattle.run_cli.specs.declared.ending.Ending.TheVariants.{Class, Words, Image, Later, Memory, Read, Write}
 
@@ -58,16 +58,8 @@ pub record IsOfOtherForm (words : List (List ℕ)) (old : FilesSeen) : Type 0 wh
   pub within : 52 ≤ length bytes
   pub other : IsSmallImage bytes → ⊥
 
--- its core came to a unit that is not built yet
-pub record HasStopped (words : List (List ℕ)) (old : FilesSeen) : Type 0 where
-  pub bytes : List ℕ
-  pub image : IsImage words old bytes
-  pub small : IsSmallImage bytes
-  pub count : ℕ
-  pub stops : Stops (setup_of bytes) count
-
 pub record IsLater (words : List (List ℕ)) (old new : FilesSeen) : Type 0 where
-  pub cause : IsLong words old ⊎ (IsOfOtherForm words old ⊎ HasStopped words old)
+  pub cause : IsLong words old ⊎ IsOfOtherForm words old
   pub calm : IsCalm old new
 
 -- the count of the image's name rose
@@ -87,11 +79,11 @@ Caused words old new Write = ⊥
 
 -- ---- when a run comes to its end
 
--- the image's core ran to its end in so many units, all of them built
+-- the image's core ran to its end in so many units
 pub record HasRun (words : List (List ℕ)) (old new : FilesSeen) (bytes : List ℕ) (count : ℕ) : Type 0 where
   pub image : IsImage words old bytes
   pub small : IsSmallImage bytes
-  pub ends : IsBuiltRun (setup_of bytes) count
+  pub ends : IsComplete (setup_of bytes) (turns count)
   pub calm : IsCalm old new
 
 -- ---- what was written

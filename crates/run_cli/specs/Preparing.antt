@@ -1,9 +1,10 @@
 -- What each part of preparing a run gives.
 use Rattle.std.specs.Prelude.{◌≡◌, ℕ, ◌<◌, ◌≤◌, List, length}
-use Rattle.machine.specs.Setups.{Setup}
-use Rattle.inline_tracker.specs.Finished.{Seen, IsFinishedRun}
+use Rattle.machine.specs.Setups.{Setup, IsSetup}
+use Rattle.machine.specs.Runs.{IsComplete}
+use Rattle.machine.specs.FinishedRuns.{FinishedRun, IsFinishedRun}
 use Rattle.run_cli.specs.SmallImage.{IsSmallImage}
-use Rattle.run_cli.specs.Runs.{setup_of, turns, AreBuilt, IsBuiltRun, Stops}
+use Rattle.run_cli.specs.Runs.{setup_of, turns}
 use Rattle.run_cli.specs.Endings.{FilesSeen, SinksSeen, IsImage, IsCalm, Delivered}
 use Rattle.run_cli.specs.declared.ending.Ending.{Ending}
 use Rattle.run_cli.specs.declared.ending.Ending.TheVariants.{Class, Words, Image, Later, Memory, Read, Write}
@@ -22,29 +23,20 @@ RefusesImage bytes Memory = Unit {0}
 RefusesImage bytes Read = ⊥
 RefusesImage bytes Write = ⊥
 
--- a run of core 0 alone to its end, each of its units built
-pub record HasRunTo (s : Setup) (finished : Seen) : Type 0 where
+-- the setup of an image by itself, its numbers in their ranges
+pub record IsRunOfImage (s : Setup) : Type 0 where
+  pub bytes : List ℕ
+  pub setup_is : s ≡ setup_of bytes
+  pub ranges : IsSetup s
+
+-- a run of core 0 alone to its end
+pub record HasRunTo (s : Setup) (finished : FinishedRun) : Type 0 where
   pub run : IsFinishedRun s finished
   pub count : ℕ
   pub order_is : finished.order ≡ turns count
-  pub built : AreBuilt s count
-
--- why a run is refused
-pub record StopsSomewhere (s : Setup) : Type 0 where
-  pub count : ℕ
-  pub stops : Stops s count
-
-abbrev pub RefusesRun : Setup → Ending → Type 0
-RefusesRun s (Class class) = ⊥
-RefusesRun s Words = ⊥
-RefusesRun s Image = ⊥
-RefusesRun s Later = StopsSomewhere s
-RefusesRun s Memory = Unit {0}
-RefusesRun s Read = ⊥
-RefusesRun s Write = ⊥
 
 -- a run that is prepared: of the image that the words name, to its end
-pub record IsPrepared (words : List (List ℕ)) (old new : FilesSeen) (s : Setup) (finished : Seen) : Type 0 where
+pub record IsPrepared (words : List (List ℕ)) (old new : FilesSeen) (s : Setup) (finished : FinishedRun) : Type 0 where
   pub bytes : List ℕ
   pub image : IsImage words old bytes
   pub small : IsSmallImage bytes
@@ -53,8 +45,8 @@ pub record IsPrepared (words : List (List ℕ)) (old new : FilesSeen) (s : Setup
   pub ran : HasRunTo s finished
 
 -- what delivering a run gives
-pub record DeliversRun (s : Setup) (finished : Seen) (old new : SinksSeen) (ending : Ending) : Type 0 where
+pub record DeliversRun (s : Setup) (finished : FinishedRun) (old new : SinksSeen) (ending : Ending) : Type 0 where
   pub count : ℕ
   pub order_is : finished.order ≡ turns count
-  pub run : IsBuiltRun s count
+  pub run : IsComplete s (turns count)
   pub delivered : Delivered s count old new ending

@@ -12,9 +12,9 @@ use outside::{Sink, write_whole};
 use trap_report::write_report;
 
 /// Writes the guest's output, and then the report.
-pub(crate) fn deliver<O: Sink, R: Sink>(run: &Run, out: &mut O, report: &mut R) -> Ending
-    requires { HasRunTo run.now.setup run.now.finished }
-    ensures { DeliversRun run.now.setup run.now.finished
+pub(crate) fn deliver<O: Sink, R: Sink>(run: &mut Run, out: &mut O, report: &mut R) -> Ending
+    requires { HasRunTo run.old.setup run.old.finished.run }
+    ensures { DeliversRun run.old.setup run.old.finished.run
         (sinks_seen (O.written out.old) (O.faults out.old) (R.written report.old) (R.faults report.old))
         (sinks_seen (O.written out.new) (O.faults out.new) (R.written report.new) (R.faults report.new))
         result }
@@ -22,7 +22,7 @@ pub(crate) fn deliver<O: Sink, R: Sink>(run: &Run, out: &mut O, report: &mut R) 
     let Ok(()) = write_whole(out, run.finished.output().as_slice()) else {
         return Ending::Write;
     };
-    let Ok(()) = write_report(report, &run.setup, &run.finished) else {
+    let Ok(()) = write_report(report, &run.setup, &mut run.finished) else {
         return Ending::Write;
     };
     Ending::Class(status_of(&run.finished))

@@ -41,7 +41,7 @@ fn conclude<F: Files, O: Sink, R: Sink>(
         result }
 {
     match prepare(alloc, words, files) {
-        Ok(run) => deliver(&run, out, report),
+        Ok(mut run) => deliver(&mut run, out, report),
         Err(ending) => {
             refuse(ending, report);
             ending
@@ -52,8 +52,8 @@ fn conclude<F: Files, O: Sink, R: Sink>(
 /// Runs the image that the words name, writes the guest's output to `out` and then the report of the run to
 /// `report`, and answers the class of its outcome. A refusal writes its one line to `report` and nothing to `out`.
 ///
-/// The statuses: 0 to 5 the class; 64 other words; 65 an image of fewer than 52 bytes; 70 an image or a unit of a
-/// kind that is not built yet; 71 want of memory; 74 the image could not be read; 75 `out` or `report` could not be
+/// The statuses: 0 to 5 the class; 64 other words; 65 an image of fewer than 52 bytes; 70 an image of a
+/// kind that is not loaded yet; 71 want of memory; 74 the image could not be read; 75 `out` or `report` could not be
 /// written whole.
 pub fn command<F: Files, O: Sink, R: Sink>(
     alloc: Global,

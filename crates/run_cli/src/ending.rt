@@ -10,7 +10,7 @@ pub enum Ending {
     Words,
     /// The image has fewer bytes than an ELF header.
     Image,
-    /// The image, or a unit of its core, is of a kind that is not built yet.
+    /// The image is of a kind that is not loaded yet.
     Later,
     /// There was not enough memory.
     Memory,

@@ -1,18 +1,22 @@
 //! From the words of a command line to a finished run.
 ghost use Rattle.std.specs.Prelude.{◌≡◌, ℕ, List, [], map, string_bytes, IfOk, IfErr};
+ghost use Rattle.elf_image.specs.ImageFault.{IsAccepted};
+ghost use Rattle.tag_policy.specs.Policies.{standard_policy};
+ghost use Rattle.machine.specs.Setups.{IsSetup};
 ghost use Rattle.run_cli.specs.SmallImage.{IsSmallImage};
 ghost use Rattle.run_cli.specs.Runs.{setup_of};
 ghost use Rattle.run_cli.specs.Endings.{files_seen, IsImage, IsCalm, Caused};
-ghost use Rattle.run_cli.specs.Preparing.{RefusesImage, RefusesRun, HasRunTo, IsPrepared};
+ghost use Rattle.run_cli.specs.Preparing.{RefusesImage, IsRunOfImage, HasRunTo, IsPrepared};
 
 use crate::ending::Ending;
 use crate::image::{HEADER_BYTES, MOST_BYTES, is_small_image};
 use crate::words::image_name;
 use elf_image::{Image, load};
-use inline_tracker::{Finished, Setup, StepFault, Stepped, Tracker};
+use inline_tracker::{Finished, Setup, Stepped, Tracker};
 use outside::{FileFault, Files};
 use std::alloc::Global;
 use syscall_drain::Guest;
+use tag_policy::Policy;
 
 const CORES: u8 = 1;
 
@@ -53,6 +57,7 @@ fn read_image<F: Files>(alloc: Global, words: &[String], files: &mut F) -> Resul
 /// for want of memory alone.
 fn load_small(alloc: Global, bytes: &[u8]) -> Result<Image, Ending>
     ensures image { IfOk result (λ image. image ≡ (setup_of bytes.now).program.layout) }
+    ensures accepted { IfOk result IsAccepted }
     ensures small { IfOk result (λ _. IsSmallImage bytes.now) }
     ensures refused { IfErr result (RefusesImage bytes.now) }
 {
@@ -70,9 +75,9 @@ fn load_small(alloc: Global, bytes: &[u8]) -> Result<Image, Ending>
 
 /// Steps core 0 to its end.
 fn run_to_end(alloc: Global, setup: &Setup) -> Result<Finished, Ending>
-    requires { (bytes : List ℕ) × (setup.now ≡ setup_of bytes) }
-    ensures ran { IfOk result (HasRunTo setup.now) }
-    ensures refused { IfErr result (RefusesRun setup.now) }
+    requires { IsRunOfImage setup.now }
+    ensures ran { IfOk result (λ finished. HasRunTo setup.now finished.run) }
+    ensures refused { IfErr result (λ ending. ending ≡ Ending.Memory) }
 {
     let Ok(mut tracker) = Tracker::create(alloc, setup) else {
         return Err(Ending::Memory);
@@ -80,7 +85,6 @@ fn run_to_end(alloc: Global, setup: &Setup) -> Result<Finished, Ending>
     'units: loop {
         match tracker.step(0) {
             Stepped::Went => {}
-            Stepped::Refused(StepFault::Later) => return Err(Ending::Later),
             Stepped::Refused(_) => break 'units,
         }
     }
@@ -92,9 +96,13 @@ fn run_to_end(alloc: Global, setup: &Setup) -> Result<Finished, Ending>
 
 /// The setup of an image by itself.
 fn setup_of(alloc: Global, image: Image) -> Setup
-    ensures { result ≡ record { program = record { layout = image; input = [] }; policy = []; budget = 1048576; limit = 4294967280 } }
+    requires accepted { IsAccepted image }
+    requires one { image.cores ≡ 1 }
+    ensures setup { result ≡ record { program = record { layout = image; input = [] }; policy = standard_policy; budget = 1048576; limit = 4294967280 } }
+    ensures ranges { IsSetup result }
 {
-    Setup::new(Guest::new(image, Vec::new(alloc)), BUDGET, ACCESS_LIMIT)
+    let guest = Guest::new(image, Vec::new(alloc));
+    Setup::new(guest, Policy::standard(), BUDGET, ACCESS_LIMIT)
 }
 
 /// The run of the image that the words name, to its end.
@@ -104,7 +112,7 @@ pub(crate) fn prepare<F: Files>(
     files: &mut F,
 ) -> Result<Run, Ending>
     ensures ran { IfOk result (λ run. IsPrepared (map string_bytes words.now) (files_seen (F.held files.old) (F.faults files.old))
-        (files_seen (F.held files.new) (F.faults files.new)) run.setup run.finished) }
+        (files_seen (F.held files.new) (F.faults files.new)) run.setup run.finished.run) }
     ensures refused { IfErr result (Caused (map string_bytes words.now) (files_seen (F.held files.old) (F.faults files.old))
         (files_seen (F.held files.new) (F.faults files.new))) }
 {

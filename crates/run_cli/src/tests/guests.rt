@@ -15,6 +15,20 @@ const NO_BUFFER: [u32; 10] = [
     0x000a_6968,
 ];
 
+/// `hi` with call 57 in place of 64, which is no call of this system, so that nothing is written.
+const OTHER_CALL: [u32; 10] = [
+    0x0001_05b7,
+    0x0245_8593,
+    0x0010_0513,
+    0x0030_0613,
+    0x0390_0893,
+    0x0000_0073,
+    0x0000_0513,
+    0x05d0_0893,
+    0x0000_0073,
+    0x000a_6968,
+];
+
 /// `li a0, 3; li a7, 93; ecall`
 const EXIT_THREE: [u32; 3] = [0x0030_0513, 0x05d0_0893, 0x0000_0073];
 
@@ -87,12 +101,18 @@ fn hi_has_its_whole_report(rt: HostRuntime) -> Result<(), Fail> {
 fn guests_run_to_their_ends(rt: HostRuntime) -> Result<(), Fail> {
     let alloc = rt.alloc();
     // The guest, its program, the status, and the end of the report.
-    let cases: [(&str, &[u32], u8, &[u8]); 6] = [
+    let cases: [(&str, &[u32], u8, &[u8]); 7] = [
         (
             "no buffer",
             &NO_BUFFER,
             1,
             b"traps 0\nends 1\n0 exit 242\nend\n",
+        ),
+        (
+            "other call",
+            &OTHER_CALL,
+            0,
+            b"traps 0\nends 1\n0 exit 0\nend\n",
         ),
         (
             "exit with 3",

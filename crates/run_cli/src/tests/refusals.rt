@@ -1,31 +1,16 @@
 //! Words and images that are refused.
 use super::*;
 
-/// `hi` with call 57 in place of 64.
-const OTHER_CALL: [u32; 10] = [
-    0x0001_05b7,
-    0x0245_8593,
-    0x0010_0513,
-    0x0030_0613,
-    0x0390_0893,
-    0x0000_0073,
-    0x0000_0513,
-    0x05d0_0893,
-    0x0000_0073,
-    0x000a_6968,
-];
-
 #[test]
 fn other_images_are_refused(rt: HostRuntime) -> Result<(), Fail> {
     let alloc = rt.alloc();
-    let other_call = image(alloc, &OTHER_CALL)?;
     let echo = echo_image(alloc)?;
     let most = image(alloc, &[0; 1024])?;
     let longer = image(alloc, &[0; 1025])?;
     let mut odd = image(alloc, &HI)?;
     odd.push(0)?;
     // The bytes of the image, the status, and the whole report or its beginning.
-    let cases: [(&[u8], u8, &[u8]); 9] = [
+    let cases: [(&[u8], u8, &[u8]); 8] = [
         (b"", 65, b"refused 65 image 1 Short\n"),
         (&[0; 51], 65, b"refused 65 image 1 Short\n"),
         (&[0; 52], 70, b"refused 70 later\n"),
@@ -33,7 +18,6 @@ fn other_images_are_refused(rt: HostRuntime) -> Result<(), Fail> {
         (&odd, 70, b"refused 70 later\n"),
         (&longer, 70, b"refused 70 later\n"),
         (&[0; 4181], 70, b"refused 70 later\n"),
-        (&other_call, 70, b"refused 70 later\n"),
         (&most, 3, b"taint-report 1\n"),
     ];
     for (bytes, status, report) in cases {
