@@ -4,6 +4,7 @@
 mod advance;
 mod ending;
 mod finished;
+pub mod laws;
 mod memory;
 mod opening;
 mod run;

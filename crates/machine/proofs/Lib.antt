@@ -6,4 +6,7 @@ pub mod ByAsk
 pub mod Reached
 pub mod Written
 pub mod Along
+pub mod CoreSteps
+pub mod TrapUnits
+pub mod TrapRuns
 mod Rows

@@ -63,7 +63,7 @@ within_given s c h running finding =
       below = λ end. rw more (answered_below s.program s.budget c.local answer h.sound end less);
     }
 
-given_units : (s : Setup) (c : Core) → IsSound c.local → (finding : Finding) → (core_given s c finding).local.units ≡ c.local.units + 1
+pub given_units : (s : Setup) (c : Core) → IsSound c.local → (finding : Finding) → (core_given s c finding).local.units ≡ c.local.units + 1
 unfolding core_given
 given_units s c sound finding = answered_units s.program s.budget c.local (answer_to (next_ask s.program c.local) finding (tags_given s c finding)) sound
 

@@ -4,3 +4,4 @@ pub mod Steps
 pub mod Runs
 pub mod Outcomes
 pub mod FinishedRuns
+pub mod TrapLaws
