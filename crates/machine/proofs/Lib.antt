@@ -9,4 +9,8 @@ pub mod Along
 pub mod CoreSteps
 pub mod TrapUnits
 pub mod TrapRuns
+pub mod Histories
+pub mod Composing
+pub mod Decomposing
+pub mod Tracing
 mod Rows

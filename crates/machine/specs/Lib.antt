@@ -5,3 +5,4 @@ pub mod Runs
 pub mod Outcomes
 pub mod FinishedRuns
 pub mod TrapLaws
+pub mod TraceLaws
