@@ -9,7 +9,9 @@ use Rattle.order_core.specs.declared.entry.Entry.{Entry}
 use Rattle.order_core.specs.Logs.{log_of}
 use Rattle.order_core.specs.Marked.{Marked, marks_of, part_of, numbers_of}
 use Rattle.order_core.specs.LegalMerge.{CountUpFrom, IsLegalMerge, IsLegalOrder}
+use Rattle.order_core.specs.CanonicalMerge.{canonical}
 use Rattle.order_core.proofs.MarkedLemmas.{part_of_other}
+use Rattle.order_core.proofs.CanonicalLaws.{canonical_legal}
 use Rattle.machine.specs.Setups.{Setup, core_count}
 use Rattle.machine.specs.States.{Core, Word, State, opening}
 use Rattle.machine.specs.Steps.{step}
@@ -126,3 +128,7 @@ same_run s order marked playable legal =
 
 pub trace : (s : Setup) (order other : List ℕ) → IsPlayable s order → IsLegalOrder (logs_along s order) other → IsSameRun s order other
 trace s order other playable legal = subst (λ (o : List ℕ). IsSameRun s order o) legal.cores (same_run s order legal.marked playable legal.legal)
+
+pub canonical_trace : (s : Setup) (order : List ℕ) → IsPlayable s order → IsSameRun s order (canonical (logs_along s order))
+canonical_trace s order playable =
+    trace s order (canonical (logs_along s order)) playable (canonical_legal (logs_along s order) (entries s order, own_merge s order playable))
