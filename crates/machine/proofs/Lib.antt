@@ -13,4 +13,6 @@ pub mod Histories
 pub mod Composing
 pub mod Decomposing
 pub mod Tracing
+pub mod Parts
+pub mod Splitting
 mod Rows
