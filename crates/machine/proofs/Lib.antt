@@ -15,4 +15,5 @@ pub mod Decomposing
 pub mod Tracing
 pub mod Parts
 pub mod Splitting
+pub mod Joining
 mod Rows
