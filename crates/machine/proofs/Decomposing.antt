@@ -1,5 +1,5 @@
 -- A run gives a history of each word, over which each core goes along its own log.
-use Rattle.std.proofs.Common.{◌≡◌, ◌≢◌, ◌⊎◌, ℕ, suc, ◌<◌, ◌≤◌, ◌==◌, Bool, true, false, if◌then◌else◌, eqb, Option, Some, None, IfSome, List, [], ◌∷◌, ◌++◌, refl, sym, ap, ◌∙◌, subst, inl, inr, arith, eq-eqb}
+use Rattle.std.proofs.Common.{◌≡◌, ◌≢◌, ◌⊎◌, ℕ, suc, ◌<◌, ◌≤◌, ◌==◌, Bool, true, false, if◌then◌else◌, eqb, Option, Some, None, IfSome, List, [], ◌∷◌, ◌++◌, length, ◌+◌, length-append, refl, sym, ap, ◌∙◌, subst, inl, inr, arith, eq-eqb}
 use Rattle.std.proofs.lemmas.Bool.{cases_eq}
 use Rattle.std.proofs.lemmas.Bool.Decides.{eqb_tells}
 use Rattle.order_core.specs.declared.entry.Access.{Access}
@@ -244,3 +244,40 @@ pub numbers_along : (s : Setup) (t : State) (order : List ℕ) (n : ℕ) → Cou
 unfolding entries_from
 numbers_along s t [] n = tt
 numbers_along s t (c ∷ order) n = numbers_first s t c n (numbers_of n (entries_from s (step s t c) order)) (numbers_along s (step s t c) order n)
+
+-- a word has one access more for each of its numbers
+count_more : (s : Setup) (t : State) (c n : ℕ) (word : Option ℕ) → touched s (t.cores c) ≡ word
+    → ((step s t c).words n).count ≡ (t.words n).count + length (number_at n (access_to t.words word))
+count_more s t c n None e = omega (arith, ap (λ (u : State). (u.words n).count) (step_quiet s t c e))
+count_more s t c n (Some m) e = by_word (cases_eq n m)
+  where
+    access : Access
+    access = record { word = m; number = (t.words m).count; found = (t.words m).payload }
+
+    words : (step s t c).words ≡ set_at t.words m (left s (t.cores c) (t.words m))
+    words = ap (λ (u : State). u.words) (step_took s t c m e)
+
+    by_word : (n ≡ m) ⊎ (n ≢ m) → ((step s t c).words n).count ≡ (t.words n).count + length (number_at n (Some access))
+    by_word (inl same) =
+        let now : (step s t c).words m ≡ left s (t.cores c) (t.words m) =
+        ap (λ (w : ℕ → Word). w m) words ∙ set_at_here t.words m (left s (t.cores c) (t.words m)) in
+        let one : length (number_at m (Some access)) ≡ 1 = ap length (number_at_some m access refl) in
+        subst (λ (k : ℕ). ((step s t c).words k).count ≡ (t.words k).count + length (number_at k (Some access))) (sym same)
+        (omega (arith, ap (λ (w : Word). w.count) now, left_count s (t.cores c) (t.words m), one))
+    by_word (inr apart) =
+        let now : (step s t c).words n ≡ t.words n = ap (λ (w : ℕ → Word). w n) words ∙ set_at_there t.words m (left s (t.cores c) (t.words m)) n apart in
+        let none : length (number_at n (Some access)) ≡ 0 = ap length (number_at_apart n access (λ k. apart (sym k))) in
+        omega (arith, ap (λ (w : Word). w.count) now, none)
+
+count_first : (s : Setup) (t : State) (c n : ℕ) → ((step s t c).words n).count ≡ (t.words n).count + length (number_at n (entry_at s t c).touch)
+unfolding entry_at
+count_first s t c n = count_more s t c n (touched s (t.cores c)) refl
+
+pub count_along : (s : Setup) (t : State) (order : List ℕ) (n : ℕ)
+    → ((run s t order).words n).count ≡ (t.words n).count + length (numbers_of n (entries_from s t order))
+unfolding run entries_from
+count_along s t [] n = omega arith
+count_along s t (c ∷ order) n =
+    let all : length (number_at n (entry_at s t c).touch ++ numbers_of n (entries_from s (step s t c) order)) ≡ length (number_at n (entry_at s t c).touch) + length (numbers_of n (entries_from s (step s t c) order)) =
+    length-append (number_at n (entry_at s t c).touch) (numbers_of n (entries_from s (step s t c) order)) in
+    omega (arith, all, count_first s t c n, count_along s (step s t c) order n)

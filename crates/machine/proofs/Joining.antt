@@ -12,7 +12,7 @@ use Rattle.order_core.specs.Marked.{Marked, marks_of, part_of, numbers_of}
 use Rattle.order_core.specs.LegalMerge.{CountUpFrom}
 use Rattle.machine.specs.Setups.{Setup, IsSetup, core_count}
 use Rattle.machine.specs.States.{Core, Word, opening, opening_core}
-use Rattle.machine.specs.Runs.{along, log_along, IsPlayable}
+use Rattle.machine.specs.Runs.{along, entries, IsPlayable}
 use Rattle.machine.specs.Outcomes.{bytes_in, output}
 use Rattle.machine.proofs.Output.{FollowFrom, output_joined}
 use Rattle.machine.proofs.Along.{at_along}
@@ -39,7 +39,7 @@ pub record AreParted (s : Setup) (words : WordParts) (InOutput : Piece → Type 
 -- the run along their cores
 pub record AreRun (s : Setup) (words : WordParts) (InOutput : Piece → Type 0) (cores : CoreParts) (marked : List Marked) : Type 0 where
   pub playable : IsPlayable s (marks_of marked)
-  pub logs : (c : ℕ) → log_along s (marks_of marked) c ≡ part_of c marked
+  pub entries_are : entries s (marks_of marked) ≡ marked
   pub cores_are : (c : ℕ) → c < core_count s → (along s (marks_of marked)).cores c ≡ core_of_lists s (opening_core s c) (cores.answers c) (cores.givens c)
   pub words_are : (n : ℕ) → IsNear InOutput ((along s (marks_of marked)).words n) (words_of words n ((along s (marks_of marked)).words n).count)
 
@@ -53,7 +53,7 @@ pub parts_run : (s : Setup) (words : WordParts) (InOutput : Piece → Type 0) (c
     → AreParted s words InOutput cores marked → AreRun s words InOutput cores marked
 parts_run s words InOutput cores marked parted = record {
   playable = composed.playable;
-  logs = λ c. ap (part_of c) composed.entries;
+  entries_are = composed.entries;
   cores_are =
       λ c below. composed.cores c ∙ (parted_run s words InOutput c (opening_core s c) (cores.answers c) (cores.givens c) (part_of c marked) below (parted.runs c below)).after;
   words_are = composed.stands;

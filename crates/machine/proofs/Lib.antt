@@ -16,4 +16,5 @@ pub mod Tracing
 pub mod Parts
 pub mod Splitting
 pub mod Joining
+pub mod Finishing
 mod Rows
