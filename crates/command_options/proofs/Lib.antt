@@ -1,0 +1,9 @@
+pub mod Scan
+pub mod TokenLemmas
+pub mod ScanLemmas
+pub mod Parse
+pub mod TableLemmas
+pub mod RowLemmas
+pub mod StepLemmas
+pub mod ParserLemmas
+pub mod NumberLemmas
