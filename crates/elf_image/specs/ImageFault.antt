@@ -1,5 +1,5 @@
 -- Why a file is no image: sixteen tests of its bytes and of the memory that is asked for, and the first of them that applies (System V gABI, "ELF Header" and "Program Header"; RISC-V psABI, "File Header").
-use Rattle.std.specs.Prelude.{◌≡◌, ℕ, ◌+◌, ◌*◌, ◌%◌, ◌≤◌, List, [], ◌∷◌, ◌++◌, length, slice_index, Option, Some, None, Bool, false, not, ◌&&◌, ◌||◌, ◌==◌, nat_eq, nat_lt, if◌then◌else◌}
+use Rattle.std.specs.Prelude.{◌≡◌, ℕ, ◌+◌, ◌*◌, ◌%◌, ◌≤◌, List, [], ◌∷◌, ◌++◌, length, slice_index, Option, Some, None, Bool, false, not, ◌&&◌, ◌||◌, ◌==◌, nat_eq, nat_lt, if◌then◌else◌, codes}
 use Rattle.std.specs.List.{list_any, starts_with}
 use Rattle.elf_image.specs.Elf.{number_at, has_bits, entry_address, table_offset, header_flags, table_entry_size, table_entries, program_headers, is_load, segments}
 use Rattle.elf_image.specs.Layout.{Layout, layout_of, page_of, all_pages, count_below, is_mapped, is_executable_page, end_of_heap}
@@ -9,24 +9,44 @@ use Rattle.elf_image.specs.declared.fault.ImageFault.{ImageFault}
 use Rattle.elf_image.specs.declared.fault.ImageFault.TheVariants.{Short, Magic, Class, ByteOrder, Version, Kind, Machine, Flags, HeaderSize, Dynamic, NoLoad, FileRange, AddressRange, Overlap, TooLarge, Entry, NoMemory}
 
 -- the number of a fault
-abbrev pub fault_number : ImageFault → ℕ
-fault_number Short = 1
-fault_number Magic = 2
-fault_number Class = 3
-fault_number ByteOrder = 4
-fault_number Version = 5
-fault_number Kind = 6
-fault_number Machine = 7
-fault_number Flags = 8
-fault_number HeaderSize = 9
-fault_number Dynamic = 10
-fault_number NoLoad = 11
-fault_number FileRange = 12
-fault_number AddressRange = 13
-fault_number Overlap = 14
-fault_number TooLarge = 15
-fault_number Entry = 16
-fault_number NoMemory = 0
+abbrev pub image_fault_number : ImageFault → ℕ
+image_fault_number Short = 1
+image_fault_number Magic = 2
+image_fault_number Class = 3
+image_fault_number ByteOrder = 4
+image_fault_number Version = 5
+image_fault_number Kind = 6
+image_fault_number Machine = 7
+image_fault_number Flags = 8
+image_fault_number HeaderSize = 9
+image_fault_number Dynamic = 10
+image_fault_number NoLoad = 11
+image_fault_number FileRange = 12
+image_fault_number AddressRange = 13
+image_fault_number Overlap = 14
+image_fault_number TooLarge = 15
+image_fault_number Entry = 16
+image_fault_number NoMemory = 0
+
+-- and its name, as the code has it
+abbrev pub image_fault_name : ImageFault → List ℕ
+image_fault_name Short = codes "Short"
+image_fault_name Magic = codes "Magic"
+image_fault_name Class = codes "Class"
+image_fault_name ByteOrder = codes "ByteOrder"
+image_fault_name Version = codes "Version"
+image_fault_name Kind = codes "Kind"
+image_fault_name Machine = codes "Machine"
+image_fault_name Flags = codes "Flags"
+image_fault_name HeaderSize = codes "HeaderSize"
+image_fault_name Dynamic = codes "Dynamic"
+image_fault_name NoLoad = codes "NoLoad"
+image_fault_name FileRange = codes "FileRange"
+image_fault_name AddressRange = codes "AddressRange"
+image_fault_name Overlap = codes "Overlap"
+image_fault_name TooLarge = codes "TooLarge"
+image_fault_name Entry = codes "Entry"
+image_fault_name NoMemory = codes "NoMemory"
 
 -- The tests of the bytes that identify an ELF file.
 abbrev pub is_short : List ℕ → Bool

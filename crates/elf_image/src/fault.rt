@@ -1,6 +1,6 @@
 //! Why a file is no image.
-ghost use Rattle.std.specs.Prelude.{◌≡◌};
-ghost use Rattle.elf_image.specs.ImageFault.{fault_number};
+ghost use Rattle.std.specs.Prelude.{◌≡◌, ◌≤◌, length};
+ghost use Rattle.elf_image.specs.ImageFault.{image_fault_number, image_fault_name};
 ghost use Rattle.elf_image.specs.declared.fault.ImageFault.TheVariants.{NoMemory};
 
 use std::alloc::{AllocError, AllocFailed};
@@ -48,7 +48,7 @@ impl ImageFault {
     /// The fault's number: 1 to 16 in the order of the tests, and 0 for `NoMemory`, which is no
     /// test.
     pub fn number(self) -> u8
-        ensures { result ≡ fault_number self }
+        ensures { result ≡ image_fault_number self }
     {
         match self {
             ImageFault::Short => 1,
@@ -68,6 +68,32 @@ impl ImageFault {
             ImageFault::TooLarge => 15,
             ImageFault::Entry => 16,
             ImageFault::NoMemory => 0,
+        }
+    }
+
+    /// The fault's name, as it stands here.
+    pub fn name(self) -> &'static str
+        ensures name { result.now ≡ image_fault_name self }
+        ensures short { length result.now ≤ 12 }
+    {
+        match self {
+            ImageFault::Short => "Short",
+            ImageFault::Magic => "Magic",
+            ImageFault::Class => "Class",
+            ImageFault::ByteOrder => "ByteOrder",
+            ImageFault::Version => "Version",
+            ImageFault::Kind => "Kind",
+            ImageFault::Machine => "Machine",
+            ImageFault::Flags => "Flags",
+            ImageFault::HeaderSize => "HeaderSize",
+            ImageFault::Dynamic => "Dynamic",
+            ImageFault::NoLoad => "NoLoad",
+            ImageFault::FileRange => "FileRange",
+            ImageFault::AddressRange => "AddressRange",
+            ImageFault::Overlap => "Overlap",
+            ImageFault::TooLarge => "TooLarge",
+            ImageFault::Entry => "Entry",
+            ImageFault::NoMemory => "NoMemory",
         }
     }
 }

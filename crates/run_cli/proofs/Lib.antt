@@ -1,9 +1,6 @@
-mod ThreeWords
-pub mod Plain
-pub mod SmallHeaders
-pub mod SmallMap
-pub mod SmallFaults
-pub mod Turns
+pub mod Rounds
 pub mod Ends
-pub mod Completing
+pub mod Reading
+pub mod ReadsOnce
 pub mod Delivering
+pub mod Completing

@@ -1,20 +1,23 @@
--- When a command answers the class of a run or want of memory, and nothing else.
-use Rattle.std.specs.Prelude.{◌≡◌, ℕ, ◌⊎◌, List, Some}
+-- When a command answers the class of a run or want of memory, and nothing else (this project's own).
+use Rattle.std.specs.Prelude.{◌≡◌, ℕ, ◌⊎◌, List, Option, None, Some, IsSome}
 use Rattle.outside.specs.Faults.{Rose}
-use Rattle.machine.specs.Runs.{along, IsComplete}
+use Rattle.machine.specs.Setups.{Setup}
+use Rattle.machine.specs.Runs.{along}
 use Rattle.machine.specs.Outcomes.{status_class}
-use Rattle.run_cli.specs.Words.{RunsImage}
-use Rattle.run_cli.specs.SmallImage.{IsSmallImage}
-use Rattle.run_cli.specs.Runs.{setup_of, turns}
-use Rattle.run_cli.specs.Endings.{FilesSeen, SinksSeen}
+use Rattle.run_cli.specs.Seen.{FilesSeen, SinksSeen}
+use Rattle.run_cli.specs.Work.{IsRunOf}
+use Rattle.run_cli.specs.Rotation.{rotation}
 
--- the words name an image, it is told that these are its bytes, and they are a small image whose run has so many units
-pub record CanRun (words : List (List ℕ)) (old : FilesSeen) (bytes : List ℕ) (count : ℕ) : Type 0 where
-  pub name : List ℕ
-  pub named : RunsImage words name
-  pub told : old.held name ≡ Some bytes
-  pub small : IsSmallImage bytes
-  pub run : IsComplete (setup_of bytes) (turns count)
+abbrev pub IsToldOf : FilesSeen → Option (List ℕ) → Type 0
+IsToldOf files None = Unit {0}
+IsToldOf files (Some name) = IsSome (files.held name)
+
+-- the words and the files are those of this setup, and the contents of the files are told
+pub record CanRun (words : List (List ℕ)) (files : FilesSeen) (s : Setup) : Type 0 where
+  pub run_of : IsRunOf words files s
+  pub image : IsSome (files.held run_of.options.image)
+  pub policy : IsToldOf files run_of.options.policy
+  pub input : IsToldOf files run_of.options.input
 
 -- no count of faults rose
 pub record NothingRose (old new : FilesSeen) (sinks_old sinks_new : SinksSeen) : Type 0 where
@@ -22,12 +25,11 @@ pub record NothingRose (old new : FilesSeen) (sinks_old sinks_new : SinksSeen) :
   pub out : Rose sinks_old.out.faults sinks_new.out.faults → ⊥
   pub report : Rose sinks_old.report.faults sinks_new.report.faults → ⊥
 
--- the class of the outcome after so many units
-abbrev pub class_after : List ℕ → ℕ → ℕ
-class_after bytes count = status_class (setup_of bytes) (along (setup_of bytes) (turns count))
+-- the class of the run in which the cores have their turns
+abbrev pub class_in_turn : Setup → ℕ
+class_in_turn s = status_class s (along s (rotation s))
 
 -- what can run is answered by the class of its run, or for want of memory by 71, where no count rose
 abbrev pub Completes : List (List ℕ) → FilesSeen → FilesSeen → SinksSeen → SinksSeen → ℕ → Type 0
 Completes words old new sinks_old sinks_new status =
-    (bytes : List ℕ) (count : ℕ) → CanRun words old bytes count → NothingRose old new sinks_old sinks_new
-    → (status ≡ class_after bytes count) ⊎ (status ≡ 71)
+    (s : Setup) → CanRun words old s → NothingRose old new sinks_old sinks_new → (status ≡ class_in_turn s) ⊎ (status ≡ 71)

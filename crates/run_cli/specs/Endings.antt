@@ -1,31 +1,27 @@
--- What each answer of a command means: when it comes, and what was written.
-use Rattle.std.specs.Prelude.{◌≡◌, ℕ, ◌<◌, ◌≤◌, ◌⊎◌, List, [], length, Option, IfSome, codes}
+-- What each ending of a command means: when it comes, and what was written (this project's own).
+use Rattle.std.specs.Prelude.{◌≡◌, ℕ, ◌<◌, ◌≤◌, ◌⊎◌, List, length, Some, Err, IfSome}
 use Rattle.outside.specs.Faults.{Rose}
-use Rattle.outside.specs.Files.{IsTold}
-use Rattle.outside.specs.Sinks.{SinkSeen, Untouched, Wrote, Cut, Told}
+use Rattle.outside.specs.Sinks.{Untouched, Wrote, Cut, Told}
+use Rattle.elf_image.specs.Layout.{Layout}
+use Rattle.elf_image.specs.ImageFault.{image_fault}
+use Rattle.elf_image.specs.declared.fault.ImageFault.{ImageFault}
+use Rattle.tag_policy.specs.Rules.{PolicySeen}
+use Rattle.tag_policy.specs.Grammar.{policy_of}
+use Rattle.tag_policy.specs.declared.fault.PolicyKind.{PolicyKind}
+use Rattle.tag_policy.specs.declared.fault.PolicyFault.TheVariants.{Bad}
 use Rattle.machine.specs.Setups.{Setup}
 use Rattle.machine.specs.Runs.{along, IsComplete}
 use Rattle.machine.specs.Outcomes.{output, status_class}
 use Rattle.trap_report.specs.Text.{text}
-use Rattle.run_cli.specs.Words.{RunsImage}
-use Rattle.run_cli.specs.SmallImage.{IsSmallImage}
-use Rattle.run_cli.specs.Runs.{setup_of, turns}
+use Rattle.run_cli.specs.Seen.{FilesSeen, SinksSeen, OptionsSeen}
+use Rattle.run_cli.specs.Words.{Reads}
+use Rattle.run_cli.specs.Work.{most_bytes, IsContents, HasImage, HasPolicy, IsRunOf}
+use Rattle.run_cli.specs.Rotation.{rotation}
+use Rattle.run_cli.specs.Lines.{line_of}
+use Rattle.run_cli.specs.declared.files.FileKind.{FileKind}
+use Rattle.run_cli.specs.declared.files.FileKind.TheVariants.{Image as ImageFile, Policy as PolicyFile, Input as InputFile}
 use Rattle.run_cli.specs.declared.ending.Ending.{Ending}
-use Rattle.run_cli.specs.declared.ending.Ending.TheVariants.{Class, Words, Image, Later, Memory, Read, Write}
-
--- what files show at one moment: their contents where they are told, and the count of faults of each name
-pub record FilesSeen : Type 0 where
-  pub held : List ℕ → Option (List ℕ)
-  pub faults : List ℕ → ℕ
-
-abbrev pub files_seen : (List ℕ → Option (List ℕ)) → (List ℕ → ℕ) → FilesSeen
-files_seen held faults = record { held = held; faults = faults }
-
--- the words name an image, and these are its bytes
-pub record IsImage (words : List (List ℕ)) (old : FilesSeen) (bytes : List ℕ) : Type 0 where
-  pub name : List ℕ
-  pub named : RunsImage words name
-  pub told : IsTold (old.held name) bytes
+use Rattle.run_cli.specs.declared.ending.Ending.TheVariants.{Class, Words, Image, Policy, Long, Memory, Read, Write}
 
 -- no count of a file changed
 abbrev pub IsCalm : FilesSeen → FilesSeen → Type 0
@@ -35,119 +31,121 @@ IsCalm old new = (name : List ℕ) → new.faults name ≡ old.faults name
 
 -- the words are not those of a run
 pub record HasNoWords (words : List (List ℕ)) (old new : FilesSeen) : Type 0 where
-  pub unread : (name : List ℕ) → RunsImage words name → ⊥
+  pub unread : (o : OptionsSeen) → Reads words o → ⊥
   pub calm : IsCalm old new
 
--- the image has fewer bytes than an ELF header
-pub record IsShort (words : List (List ℕ)) (old new : FilesSeen) : Type 0 where
+-- the image has this fault
+pub record HasImageFault (words : List (List ℕ)) (old new : FilesSeen) (fault : ImageFault) : Type 0 where
+  pub options : OptionsSeen
+  pub reads : Reads words options
   pub bytes : List ℕ
-  pub image : IsImage words old bytes
-  pub short : length bytes < 52
+  pub contents : IsContents old ImageFile options.image bytes
+  pub has : image_fault bytes options.cores options.stack options.heap ≡ Some fault
   pub calm : IsCalm old new
 
--- the image is longer than those that are loaded today
-pub record IsLong (words : List (List ℕ)) (old : FilesSeen) : Type 0 where
+-- the image is accepted, and the policy's text has this fault
+pub record HasPolicyFault (words : List (List ℕ)) (old new : FilesSeen) (kind : PolicyKind) (table key : ℕ) : Type 0 where
+  pub options : OptionsSeen
+  pub image : Layout
+  pub before : HasImage words old options image
   pub name : List ℕ
-  pub named : RunsImage words name
-  pub told : IfSome (old.held name) (λ bytes. 4180 < length bytes)
-
--- it is of another form than those that are loaded today
-pub record IsOfOtherForm (words : List (List ℕ)) (old : FilesSeen) : Type 0 where
+  pub named : options.policy ≡ Some name
   pub bytes : List ℕ
-  pub image : IsImage words old bytes
-  pub within : 52 ≤ length bytes
-  pub other : IsSmallImage bytes → ⊥
-
-pub record IsLater (words : List (List ℕ)) (old new : FilesSeen) : Type 0 where
-  pub cause : IsLong words old ⊎ IsOfOtherForm words old
+  pub contents : IsContents old PolicyFile name bytes
+  pub has : policy_of bytes ≡ Err (Bad kind table key)
   pub calm : IsCalm old new
 
--- the count of the image's name rose
-pub record HasReadFault (words : List (List ℕ)) (old new : FilesSeen) : Type 0 where
+-- the file that is read next has this name
+pub record ComesToImage (words : List (List ℕ)) (name : List ℕ) : Type 0 where
+  pub options : OptionsSeen
+  pub reads : Reads words options
+  pub named : options.image ≡ name
+
+pub record ComesToPolicy (words : List (List ℕ)) (files : FilesSeen) (name : List ℕ) : Type 0 where
+  pub options : OptionsSeen
+  pub image : Layout
+  pub before : HasImage words files options image
+  pub named : options.policy ≡ Some name
+
+pub record ComesToInput (words : List (List ℕ)) (files : FilesSeen) (name : List ℕ) : Type 0 where
+  pub options : OptionsSeen
+  pub image : Layout
+  pub policy : PolicySeen
+  pub before : HasPolicy words files options image policy
+  pub named : options.input ≡ Some name
+
+abbrev pub ComesTo : List (List ℕ) → FilesSeen → FileKind → List ℕ → Type 0
+ComesTo words files ImageFile name = ComesToImage words name
+ComesTo words files PolicyFile name = ComesToPolicy words files name
+ComesTo words files InputFile name = ComesToInput words files name
+
+-- this file is longer than such a file may be
+pub record IsLong (words : List (List ℕ)) (old new : FilesSeen) (kind : FileKind) : Type 0 where
   pub name : List ℕ
-  pub named : RunsImage words name
+  pub comes : ComesTo words old kind name
+  pub told : IfSome (old.held name) (λ bytes. most_bytes kind < length bytes)
+  pub calm : IsCalm old new
+
+-- the count of this file's name rose
+pub record HasReadFault (words : List (List ℕ)) (old new : FilesSeen) (kind : FileKind) : Type 0 where
+  pub name : List ℕ
+  pub comes : ComesTo words old kind name
   pub rose : Rose (old.faults name) (new.faults name)
 
 abbrev pub Caused : List (List ℕ) → FilesSeen → FilesSeen → Ending → Type 0
 Caused words old new (Class class) = ⊥
 Caused words old new Words = HasNoWords words old new
-Caused words old new Image = IsShort words old new
-Caused words old new Later = IsLater words old new
+Caused words old new (Image fault) = HasImageFault words old new fault
+Caused words old new (Policy kind table key) = HasPolicyFault words old new kind table key
+Caused words old new (Long kind) = IsLong words old new kind
 Caused words old new Memory = IsCalm old new
-Caused words old new Read = HasReadFault words old new
+Caused words old new (Read kind) = HasReadFault words old new kind
 Caused words old new Write = ⊥
 
--- ---- when a run comes to its end
+-- a refusal writes its one line to the report, or a prefix of it, and nothing to the output
+pub record WroteLine (ending : Ending) (old new : SinksSeen) : Type 0 where
+  pub out : Untouched old.out new.out
+  pub report : Told (line_of ending) old.report new.report
 
--- the image's core ran to its end in so many units
-pub record HasRun (words : List (List ℕ)) (old new : FilesSeen) (bytes : List ℕ) (count : ℕ) : Type 0 where
-  pub image : IsImage words old bytes
-  pub small : IsSmallImage bytes
-  pub ends : IsComplete (setup_of bytes) (turns count)
-  pub calm : IsCalm old new
+-- ---- what a run leaves
 
--- ---- what was written
+-- this order of the cores' units is complete, and it is the one in which they had their turns
+pub record IsOrderOf (s : Setup) (order : List ℕ) : Type 0 where
+  pub complete : IsComplete s order
+  pub turned : order ≡ rotation s
 
-abbrev pub line_of : Ending → List ℕ
-line_of (Class class) = []
-line_of Words = codes "refused 64 words\n"
-line_of Image = codes "refused 65 image 1 Short\n"
-line_of Later = codes "refused 70 later\n"
-line_of Memory = codes "refused 71 memory\n"
-line_of Read = codes "refused 74 read image\n"
-line_of Write = []
-
--- a refusal writes its one line to the report, and nothing to the output
-pub record Refused (ending : Ending) (out_old out_new report_old report_new : SinkSeen) : Type 0 where
-  pub out : Untouched out_old out_new
-  pub report : Told (line_of ending) report_old report_new
-
--- the two sinks before a call and after it
-pub record SinksSeen : Type 0 where
-  pub out : SinkSeen
-  pub report : SinkSeen
-
-abbrev pub sinks_seen : Option (List ℕ) → ℕ → Option (List ℕ) → ℕ → SinksSeen
-sinks_seen out out_faults report report_faults =
-    record { out = record { written = out; faults = out_faults }; report = record { written = report; faults = report_faults } }
-
-abbrev pub WroteLine : Ending → SinksSeen → SinksSeen → Type 0
-WroteLine ending old new = Refused ending old.out new.out old.report new.report
-
-abbrev pub output_of : Setup → ℕ → List ℕ
-output_of s count = output (along s (turns count))
+abbrev pub output_along : Setup → List ℕ → List ℕ
+output_along s order = output (along s order)
 
 -- a run writes the guest's output, and then the report
-pub record Written (s : Setup) (count : ℕ) (old new : SinksSeen) : Type 0 where
-  pub out : Wrote (output_of s count) old.out new.out
-  pub report : Wrote (text s (turns count)) old.report new.report
+pub record Written (s : Setup) (order : List ℕ) (old new : SinksSeen) : Type 0 where
+  pub out : Wrote (output_along s order) old.out new.out
+  pub report : Wrote (text s order) old.report new.report
 
-pub record CutOutput (s : Setup) (count : ℕ) (old new : SinksSeen) : Type 0 where
-  pub out : Cut (output_of s count) old.out new.out
+pub record CutOutput (s : Setup) (order : List ℕ) (old new : SinksSeen) : Type 0 where
+  pub out : Cut (output_along s order) old.out new.out
   pub report : Untouched old.report new.report
 
-pub record CutReport (s : Setup) (count : ℕ) (old new : SinksSeen) : Type 0 where
-  pub out : Wrote (output_of s count) old.out new.out
-  pub report : Cut (text s (turns count)) old.report new.report
+pub record CutReport (s : Setup) (order : List ℕ) (old new : SinksSeen) : Type 0 where
+  pub out : Wrote (output_along s order) old.out new.out
+  pub report : Cut (text s order) old.report new.report
 
--- what delivering a run of so many units gives
-abbrev pub Delivered : Setup → ℕ → SinksSeen → SinksSeen → Ending → Type 0
-Delivered s count old new (Class class) = (class ≡ status_class s (along s (turns count))) × (class ≤ 5) × Written s count old new
-Delivered s count old new Words = ⊥
-Delivered s count old new Image = ⊥
-Delivered s count old new Later = ⊥
-Delivered s count old new Memory = ⊥
-Delivered s count old new Read = ⊥
-Delivered s count old new Write = CutOutput s count old new ⊎ CutReport s count old new
+-- the class of the run with all written, or a write that was cut
+abbrev pub Delivered : Setup → List ℕ → SinksSeen → SinksSeen → Ending → Type 0
+Delivered s order old new (Class class) = (class ≡ status_class s (along s order)) × (class ≤ 5) × Written s order old new
+Delivered s order old new Write = CutOutput s order old new ⊎ CutReport s order old new
+Delivered s order old new _ = ⊥
 
--- ---- the answers
+-- ---- the endings
 
--- a run that came to its end, and what was delivered of it
-pub record HasDelivered (words : List (List ℕ)) (old new : FilesSeen) (sinks_old sinks_new : SinksSeen) (ending : Ending) : Type 0 where
-  pub bytes : List ℕ
-  pub count : ℕ
-  pub run : HasRun words old new bytes count
-  pub delivered : Delivered (setup_of bytes) count sinks_old sinks_new ending
+-- the words and the files are those of a run, which came to its end and was delivered
+pub record HasRun (words : List (List ℕ)) (old new : FilesSeen) (sinks_old sinks_new : SinksSeen) (ending : Ending) : Type 0 where
+  pub setup : Setup
+  pub run_of : IsRunOf words old setup
+  pub order : List ℕ
+  pub order_of : IsOrderOf setup order
+  pub calm : IsCalm old new
+  pub delivered : Delivered setup order sinks_old sinks_new ending
 
 pub record WasRefused (words : List (List ℕ)) (old new : FilesSeen) (sinks_old sinks_new : SinksSeen) (ending : Ending) : Type 0 where
   pub caused : Caused words old new ending
@@ -155,14 +153,4 @@ pub record WasRefused (words : List (List ℕ)) (old new : FilesSeen) (sinks_old
 
 abbrev pub Ended : List (List ℕ) → FilesSeen → FilesSeen → SinksSeen → SinksSeen → Ending → Type 0
 Ended words old new sinks_old sinks_new ending =
-    HasDelivered words old new sinks_old sinks_new ending ⊎ WasRefused words old new sinks_old sinks_new ending
-
--- the statuses
-abbrev pub status_of : Ending → ℕ
-status_of (Class class) = class
-status_of Words = 64
-status_of Image = 65
-status_of Later = 70
-status_of Memory = 71
-status_of Read = 74
-status_of Write = 75
+    HasRun words old new sinks_old sinks_new ending ⊎ WasRefused words old new sinks_old sinks_new ending

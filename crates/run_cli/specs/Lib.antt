@@ -1,9 +1,10 @@
+pub mod Seen
 pub mod Words
-pub mod SmallImage
-pub mod SmallLaws
-pub mod Runs
+pub mod Work
+pub mod Rotation
+pub mod Lines
 pub mod Endings
 pub mod Completeness
-pub mod RunLaws
-pub mod Preparing
-pub mod Stepping
+pub mod Laws
+pub mod Forms
+pub mod Turning

@@ -1,7 +1,9 @@
 //! What the program does with the words of its command line.
 ghost use Rattle.std.specs.Prelude.{◌≡◌, map, string_bytes};
 ghost use Rattle.run_cli.specs.declared.ending.Ending.{Ending as EndingSeen};
-ghost use Rattle.run_cli.specs.Endings.{files_seen, sinks_seen, Ended, status_of};
+ghost use Rattle.run_cli.specs.Seen.{files_seen, sinks_seen};
+ghost use Rattle.run_cli.specs.Lines.{status_of};
+ghost use Rattle.run_cli.specs.Endings.{Ended};
 ghost use Rattle.run_cli.specs.Completeness.{Completes};
 
 use crate::deliver::{deliver, refuse};
@@ -9,21 +11,6 @@ use crate::ending::Ending;
 use crate::prepare::prepare;
 use outside::{Files, Sink};
 use std::alloc::Global;
-
-/// The status of an ending.
-fn status(ending: Ending) -> u8
-    ensures { result ≡ status_of ending }
-{
-    match ending {
-        Ending::Class(class) => class,
-        Ending::Words => 64,
-        Ending::Image => 65,
-        Ending::Later => 70,
-        Ending::Memory => 71,
-        Ending::Read => 74,
-        Ending::Write => 75,
-    }
-}
 
 /// Does what the words say, up to its ending.
 fn conclude<F: Files, O: Sink, R: Sink>(
@@ -49,11 +36,12 @@ fn conclude<F: Files, O: Sink, R: Sink>(
     }
 }
 
-/// Runs the image that the words name, writes the guest's output to `out` and then the report of the run to
-/// `report`, and answers the class of its outcome. A refusal writes its one line to `report` and nothing to `out`.
+/// Runs the image that the words name on its input and under its policy, writes the guest's output to `out` and then
+/// the report of the run to `report`, and answers the class of its outcome. A refusal writes its one line to `report`
+/// and nothing to `out`.
 ///
-/// The statuses: 0 to 5 the class; 64 other words; 65 an image of fewer than 52 bytes; 70 an image of a
-/// kind that is not loaded yet; 71 want of memory; 74 the image could not be read; 75 `out` or `report` could not be
+/// The statuses: 0 to 5 the class; 64 other words; 65 a fault of the image; 66 a fault of the policy's text; 69 a
+/// file that is too long; 71 want of memory; 74 a file that could not be read; 75 `out` or `report` could not be
 /// written whole.
 pub fn command<F: Files, O: Sink, R: Sink>(
     alloc: Global,
@@ -75,5 +63,5 @@ pub fn command<F: Files, O: Sink, R: Sink>(
         (sinks_seen (O.written out.new) (O.faults out.new) (R.written report.new) (R.faults report.new))
         result }
 {
-    status(conclude(alloc, words, files, out, report))
+    conclude(alloc, words, files, out, report).status()
 }

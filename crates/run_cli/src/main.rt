@@ -4,9 +4,12 @@
 mod deliver;
 mod dispatch;
 mod ending;
-mod image;
+mod files;
 pub mod laws;
+mod options;
 mod prepare;
+mod refusal;
+mod rotation;
 #[cfg(test)]
 mod tests;
 mod words;

@@ -1,32 +1,29 @@
 //! From the words of a command line to a finished run.
-ghost use Rattle.std.specs.Prelude.{◌≡◌, ℕ, List, [], map, string_bytes, IfOk, IfErr};
+ghost use Rattle.std.specs.Prelude.{◌≡◌, ◌≤◌, ℕ, List, length, map, string_bytes, OnOk, IfOk, IfErr};
+ghost use Rattle.elf_image.specs.Layout.{Layout};
 ghost use Rattle.elf_image.specs.ImageFault.{IsAccepted};
-ghost use Rattle.tag_policy.specs.Policies.{standard_policy};
+ghost use Rattle.tag_policy.specs.Policies.{policy_in, standard_policy};
+ghost use Rattle.tag_policy.specs.Rules.{PolicySeen};
 ghost use Rattle.machine.specs.Setups.{IsSetup};
-ghost use Rattle.run_cli.specs.SmallImage.{IsSmallImage};
-ghost use Rattle.run_cli.specs.Runs.{setup_of};
-ghost use Rattle.run_cli.specs.Endings.{files_seen, IsImage, IsCalm, Caused};
-ghost use Rattle.run_cli.specs.Preparing.{RefusesImage, IsRunOfImage, HasRunTo, IsPrepared};
+ghost use Rattle.machine.specs.FinishedRuns.{IsFinishedRun};
+ghost use Rattle.run_cli.specs.Seen.{files_seen, options_in};
+ghost use Rattle.run_cli.specs.Words.{Reads};
+ghost use Rattle.run_cli.specs.Work.{layout_with, setup_of, IsImage, IsPolicy, IsInput, HasImage, HasPolicy, IsRunOf};
+ghost use Rattle.run_cli.specs.Rotation.{rotation};
+ghost use Rattle.run_cli.specs.Endings.{IsCalm, Caused, IsOrderOf};
+ghost use Rattle.run_cli.specs.Forms.{image_ending, policy_ending};
 
 use crate::ending::Ending;
-use crate::image::{HEADER_BYTES, MOST_BYTES, is_small_image};
-use crate::words::image_name;
-use elf_image::{Image, load};
-use inline_tracker::{Finished, Setup, Stepped, Tracker};
-use outside::{FileFault, Files};
+use crate::files::{FileKind, read_file};
+use crate::options::RunOptions;
+use crate::rotation::run_in_turn;
+use crate::words::run_options;
+use elf_image::{Image, ImageFault, load};
+use inline_tracker::{Finished, Setup};
+use outside::Files;
 use std::alloc::Global;
 use syscall_drain::Guest;
-use tag_policy::Policy;
-
-const CORES: u8 = 1;
-
-const STACK_PAGES: u32 = 16;
-
-const HEAP_PAGES: u32 = 256;
-
-const BUDGET: u32 = 1_048_576;
-
-const ACCESS_LIMIT: u32 = 4_294_967_280;
+use tag_policy::{Policy, PolicyFault, read_policy};
 
 /// A finished run with its setup.
 #[derive(Drop)]
@@ -35,90 +32,124 @@ pub struct Run {
     pub finished: Finished,
 }
 
-/// The bytes of the image that the words name.
-fn read_image<F: Files>(alloc: Global, words: &[String], files: &mut F) -> Result<Vec<u8>, Ending>
-    ensures read { IfOk result (λ bytes. IsImage (map string_bytes words.now) (files_seen (F.held files.old) (F.faults files.old)) bytes.items
-        × IsCalm (files_seen (F.held files.old) (F.faults files.old)) (files_seen (F.held files.new) (F.faults files.new))) }
-    ensures refused { IfErr result (Caused (map string_bytes words.now) (files_seen (F.held files.old) (F.faults files.old))
-        (files_seen (F.held files.new) (F.faults files.new))) }
+/// The ending where an image is refused.
+fn image_ending(fault: ImageFault) -> Ending
+    ensures { result ≡ image_ending fault }
 {
-    let Some(name) = image_name(words) else {
-        return Err(Ending::Words);
-    };
-    match files.read_all(alloc, name, MOST_BYTES) {
-        Ok(bytes) => Ok(bytes),
-        Err(FileFault::Failed) => Err(Ending::Read),
-        Err(FileFault::TooLong) => Err(Ending::Later),
-        Err(FileFault::NoMemory) => Err(Ending::Memory),
+    match fault {
+        ImageFault::NoMemory => Ending::Memory,
+        fault => Ending::Image(fault),
     }
 }
 
-/// The image of a file, if it is one of those that are loaded today. These have no fault, so that loading one fails
-/// for want of memory alone.
-fn load_small(alloc: Global, bytes: &[u8]) -> Result<Image, Ending>
-    ensures image { IfOk result (λ image. image ≡ (setup_of bytes.now).program.layout) }
-    ensures accepted { IfOk result IsAccepted }
-    ensures small { IfOk result (λ _. IsSmallImage bytes.now) }
-    ensures refused { IfErr result (RefusesImage bytes.now) }
+/// The ending where the text of a policy is refused.
+fn policy_ending(fault: PolicyFault) -> Ending
+    ensures { result ≡ policy_ending fault }
 {
-    if bytes.len() < HEADER_BYTES {
-        return Err(Ending::Image);
-    }
-    if !is_small_image(bytes) {
-        return Err(Ending::Later);
-    }
-    match load(alloc, bytes, CORES, STACK_PAGES, HEAP_PAGES) {
-        Ok(image) => Ok(image),
-        Err(_) => Err(Ending::Memory),
+    match fault {
+        PolicyFault::Bad { kind, table, key } => Ending::Policy { kind, table, key },
+        PolicyFault::NoMemory => Ending::Memory,
     }
 }
 
-/// Steps core 0 to its end.
-fn run_to_end(alloc: Global, setup: &Setup) -> Result<Finished, Ending>
-    requires { IsRunOfImage setup.now }
-    ensures ran { IfOk result (λ finished. HasRunTo setup.now finished.run) }
-    ensures refused { IfErr result (λ ending. ending ≡ Ending.Memory) }
-{
-    let Ok(mut tracker) = Tracker::create(alloc, setup) else {
-        return Err(Ending::Memory);
-    };
-    'units: loop {
-        match tracker.step(0) {
-            Stepped::Went => {}
-            Stepped::Refused(_) => break 'units,
-        }
-    }
-    match tracker.finish() {
-        Ok(finished) => Ok(finished),
-        Err(_) => unreachable!(),
-    }
-}
-
-/// The setup of an image by itself.
-fn setup_of(alloc: Global, image: Image) -> Setup
-    requires accepted { IsAccepted image }
-    requires one { image.cores ≡ 1 }
-    ensures setup { result ≡ record { program = record { layout = image; input = [] }; policy = standard_policy; budget = 1048576; limit = 4294967280 } }
-    ensures ranges { IsSetup result }
-{
-    let guest = Guest::new(image, Vec::new(alloc));
-    Setup::new(guest, Policy::standard(), BUDGET, ACCESS_LIMIT)
-}
-
-/// The run of the image that the words name, to its end.
-pub(crate) fn prepare<F: Files>(
+/// The image of the options.
+fn read_image<F: Files>(
     alloc: Global,
-    words: &[String],
+    options: &RunOptions<'_>,
     files: &mut F,
-) -> Result<Run, Ending>
-    ensures ran { IfOk result (λ run. IsPrepared (map string_bytes words.now) (files_seen (F.held files.old) (F.faults files.old))
-        (files_seen (F.held files.new) (F.faults files.new)) run.setup run.finished.run) }
-    ensures refused { IfErr result (Caused (map string_bytes words.now) (files_seen (F.held files.old) (F.faults files.old))
-        (files_seen (F.held files.new) (F.faults files.new))) }
+) -> Result<Image, Ending>
+    ensures read { IfOk result (IsImage (files_seen (F.held files.old) (F.faults files.old)) (options_in options.now)) }
+    ensures same { OnOk result (files_seen (F.held files.new) (F.faults files.new) ≡ files_seen (F.held files.old) (F.faults files.old)) }
+    ensures refused { (words : List (List ℕ)) → Reads words (options_in options.now)
+        → IfErr result (Caused words (files_seen (F.held files.old) (F.faults files.old)) (files_seen (F.held files.new) (F.faults files.new))) }
 {
-    let bytes = read_image(alloc, words, files)?;
-    let image = load_small(alloc, bytes.as_slice())?;
-    let setup = setup_of(alloc, image);
-    let finished = run_to_end(alloc, &setup)?;
-    Ok(Run { setup, finished })
+    let bytes = read_file(alloc, FileKind::Image, options.image, files)?;
+    match load(
+        alloc,
+        bytes.as_slice(),
+        options.cores,
+        options.stack,
+        options.heap,
+    ) {
+        Ok(image) => Ok(image),
+        Err(fault) => Err(image_ending(fault)),
+    }
+}
+
+/// The policy of the options: without a file, the standard policy.
+fn policy_of<F: Files>(
+    alloc: Global,
+    options: &RunOptions<'_>,
+    files: &mut F,
+) -> Result<Policy, Ending>
+    ensures read { IfOk result (λ policy. IsPolicy (files_seen (F.held files.old) (F.faults files.old)) (options_in options.now).policy (policy_in policy)) }
+    ensures same { OnOk result (files_seen (F.held files.new) (F.faults files.new) ≡ files_seen (F.held files.old) (F.faults files.old)) }
+    ensures refused { (words : List (List ℕ)) (image : Layout) → HasImage words (files_seen (F.held files.old) (F.faults files.old)) (options_in options.now) image
+        → IfErr result (Caused words (files_seen (F.held files.old) (F.faults files.old)) (files_seen (F.held files.new) (F.faults files.new))) }
+{
+    let Some(name) = options.policy else {
+        return Ok(Policy::standard());
+    };
+    let text = read_file(alloc, FileKind::Policy, name, files)?;
+    match read_policy(alloc, text.as_slice()) {
+        Ok(policy) => Ok(policy),
+        Err(fault) => Err(policy_ending(fault)),
+    }
+}
+
+/// The input of the options: without a file, no bytes.
+fn input_of<F: Files>(
+    alloc: Global,
+    options: &RunOptions<'_>,
+    files: &mut F,
+) -> Result<Vec<u8>, Ending>
+    ensures read { IfOk result (λ input. IsInput (files_seen (F.held files.old) (F.faults files.old)) (options_in options.now).input input.items) }
+    ensures short { IfOk result (λ input. length input.items ≤ 16777216) }
+    ensures same { OnOk result (files_seen (F.held files.new) (F.faults files.new) ≡ files_seen (F.held files.old) (F.faults files.old)) }
+    ensures refused { (words : List (List ℕ)) (image : Layout) (policy : PolicySeen) → HasPolicy words (files_seen (F.held files.old) (F.faults files.old)) (options_in options.now) image policy
+        → IfErr result (Caused words (files_seen (F.held files.old) (F.faults files.old)) (files_seen (F.held files.new) (F.faults files.new))) }
+{
+    match options.input {
+        Some(name) => read_file(alloc, FileKind::Input, name, files),
+        None => Ok(Vec::new(alloc)),
+    }
+}
+
+/// The setup of the options with what was read.
+fn setup_with(options: &RunOptions<'_>, image: Image, policy: Policy, input: Vec<u8>) -> Setup
+    requires numbers { image ≡ layout_with (options_in options.now) image.bytes }
+    requires accepted { IsAccepted image }
+    requires short { length input.items ≤ 16777216 }
+    ensures { result ≡ setup_of (options_in options.now) image (policy_in policy) input.items }
+{
+    let guest = Guest::new(image, input);
+    Setup::new(guest, policy, options.budget, options.limit)
+}
+
+/// The setup that the words and the files say.
+fn read_setup<F: Files>(alloc: Global, words: &[String], files: &mut F) -> Result<Setup, Ending>
+    ensures read { IfOk result (IsRunOf (map string_bytes words.now) (files_seen (F.held files.old) (F.faults files.old))) }
+    ensures same { OnOk result (files_seen (F.held files.new) (F.faults files.new) ≡ files_seen (F.held files.old) (F.faults files.old)) }
+    ensures refused { IfErr result (Caused (map string_bytes words.now) (files_seen (F.held files.old) (F.faults files.old)) (files_seen (F.held files.new) (F.faults files.new))) }
+{
+    let options = run_options(alloc, words)?;
+    let image = read_image(alloc, &options, files)?;
+    let policy = policy_of(alloc, &options, files)?;
+    let input = input_of(alloc, &options, files)?;
+    Ok(setup_with(&options, image, policy, input))
+}
+
+/// The run that the words say, to its end.
+pub fn prepare<F: Files>(alloc: Global, words: &[String], files: &mut F) -> Result<Run, Ending>
+    ensures run_of { IfOk result (λ run. IsRunOf (map string_bytes words.now) (files_seen (F.held files.old) (F.faults files.old)) run.setup) }
+    ensures finished { IfOk result (λ run. IsFinishedRun run.setup run.finished.run) }
+    ensures order { IfOk result (λ run. IsOrderOf run.setup run.finished.run.order) }
+    ensures calm { OnOk result (IsCalm (files_seen (F.held files.old) (F.faults files.old)) (files_seen (F.held files.new) (F.faults files.new))) }
+    ensures refused { IfErr result (Caused (map string_bytes words.now) (files_seen (F.held files.old) (F.faults files.old)) (files_seen (F.held files.new) (F.faults files.new))) }
+{
+    let setup = read_setup(alloc, words, files)?;
+    match run_in_turn(alloc, &setup) {
+        Ok(finished) => Ok(Run { setup, finished }),
+        Err(NoMemory) => Err(Ending::Memory),
+    }
 }

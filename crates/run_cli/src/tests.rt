@@ -2,8 +2,10 @@
 use super::*;
 use outside::{MemFiles, MemSink};
 use std::alloc::{AllocError, Global};
+use std::process::Abort;
 use std::test::Fail;
 
+mod examples;
 mod faults;
 mod guests;
 mod memory;
@@ -77,10 +79,7 @@ const HI_REPORT: &[u8] = b"taint-report 1\n\
     0 exit 0\n\
     end\n";
 
-/// The header of an image of four program headers, from its entry on.
-const ECHO_HEADER: [u32; 7] = [0x0001_00b4, 52, 0, 0, 0x0020_0034, 4, 0];
-
-/// Its program headers: one of the processor's own, two that load, and the stack's.
+/// The program headers of an image: one of the processor's own, two that load, and the stack's.
 const ECHO_TABLE: [[u32; 8]; 4] = [
     [0x7000_0003, 0, 0, 0, 0, 0, 0, 0],
     [1, 0, 0x0001_0000, 0x0001_0000, 0xf0, 0xf0, 5, 0x1000],
@@ -114,7 +113,14 @@ fn push_words(bytes: &mut Vec<u8>, words: &[u32]) -> Result<(), AllocError> {
     Ok(())
 }
 
-/// The small image of a program.
+/// A file of these words.
+fn file_of(alloc: Global, words: &[u32]) -> Result<Vec<u8>, AllocError> {
+    let mut bytes = Vec::new(alloc);
+    push_words(&mut bytes, words)?;
+    Ok(bytes)
+}
+
+/// The small image of a program: one segment at 0x10000, which may be read, written and executed.
 fn image(alloc: Global, program: &[u32]) -> Result<Vec<u8>, AllocError> {
     let size = u32::try_from(program.len()).unwrap_or(0).wrapping_mul(4);
     let mut bytes = Vec::new(alloc);
@@ -124,11 +130,11 @@ fn image(alloc: Global, program: &[u32]) -> Result<Vec<u8>, AllocError> {
     Ok(bytes)
 }
 
-/// The image of four program headers.
-fn echo_image(alloc: Global) -> Result<Vec<u8>, AllocError> {
+/// An image of four program headers, where the ELF header has these flags.
+fn echo_image(alloc: Global, flags: u32) -> Result<Vec<u8>, AllocError> {
     let mut bytes = Vec::new(alloc);
     push_words(&mut bytes, &HEADERS[..6])?;
-    push_words(&mut bytes, &ECHO_HEADER)?;
+    push_words(&mut bytes, &[0x0001_00b4, 52, 0, flags, 0x0020_0034, 4, 0])?;
     for header in &ECHO_TABLE {
         push_words(&mut bytes, header)?;
     }
@@ -164,8 +170,8 @@ impl Surroundings {
         files.add(alloc, "guest.elf", image)?;
         Ok(Surroundings {
             files,
-            out: MemSink::new(alloc, 16, &[])?,
-            report: MemSink::new(alloc, 131_072, &[])?,
+            out: MemSink::new(alloc, 8192, &[])?,
+            report: MemSink::new(alloc, 1_048_576, &[])?,
         })
     }
 
@@ -180,4 +186,59 @@ impl Surroundings {
             &mut self.report,
         ))
     }
+}
+
+/// A run, and what it leaves.
+#[derive(Clone, Copy)]
+struct Case<'a> {
+    name: &'a str,
+    image: &'a [u8],
+    /// The options after the image. A run that names an input or a policy is given these.
+    options: &'a [&'a str],
+    input: &'a [u8],
+    policy: &'a [u8],
+    status: u8,
+    out: &'a [u8],
+    /// How the report begins after its first line, and how it ends.
+    head: &'a [u8],
+    tail: &'a [u8],
+}
+
+/// A run of an image without further options.
+fn plain<'a>(
+    name: &'a str,
+    image: &'a [u8],
+    status: u8,
+    out: &'a [u8],
+    tail: &'a [u8],
+) -> Case<'a> {
+    Case {
+        name,
+        image,
+        options: &[],
+        input: b"",
+        policy: b"",
+        status,
+        out,
+        head: b"",
+        tail,
+    }
+}
+
+/// Runs a case, and compares what it left.
+fn try_case(rt: &impl Abort, alloc: Global, case: &Case<'_>) -> Result<(), Fail> {
+    let name = case.name;
+    let mut around = Surroundings::ample(alloc, case.image)?;
+    around.files.add(alloc, "input", case.input)?;
+    around.files.add(alloc, "policy.toml", case.policy)?;
+    let mut words = Vec::from_slice(alloc, &RUN)?;
+    words.extend_from_slice(case.options)?;
+    assert_eq!(rt; around.command(alloc, &words)?, case.status, "{name}");
+    assert_eq!(rt; around.out.bytes(), case.out, "{name}");
+    let report = around.report.bytes();
+    let mut head = Vec::from_slice(alloc, b"taint-report 1\n")?;
+    head.extend_from_slice(case.head)?;
+    assert!(rt; report.starts_with(&head), "{name}");
+    assert!(rt; report.ends_with(case.tail), "{name}");
+    Ok(())
 }

@@ -5,25 +5,33 @@ use super::*;
 fn each_reading_fails_in_turn(rt: HostRuntime) -> Result<(), Fail> {
     let alloc = rt.alloc();
     let bytes = image(alloc, &HI)?;
-    let mut covered = 0;
-    for call in 0..1000 {
+    let words = [
+        "run",
+        "--image",
+        "guest.elf",
+        "--input",
+        "input",
+        "--policy",
+        "policy.toml",
+    ];
+    let lines: [&[u8]; 3] = [
+        b"refused 74 read image\n",
+        b"refused 74 read policy\n",
+        b"refused 74 read input\n",
+    ];
+    for (call, line) in (0..).zip(lines) {
         let mut around = Surroundings::ample(alloc, &bytes)?;
         around.files = MemFiles::new(alloc, &[call])?;
         around.files.add(alloc, "guest.elf", &bytes)?;
-        let status = around.command(alloc, &RUN)?;
-        if around.files.calls() <= call {
-            assert_eq!(rt; status, 0);
-            covered = call;
-            break;
-        }
-        assert_eq!(rt; status, 74, "call {call}");
+        around
+            .files
+            .add(alloc, "policy.toml", b"version = 1\npolicy = []\n")?;
+        around.files.add(alloc, "input", b"")?;
+        assert_eq!(rt; around.command(alloc, &words)?, 74, "call {call}");
+        assert_eq!(rt; around.files.calls(), call + 1);
         assert_eq!(rt; around.out.calls(), 0, "call {call}");
-        assert_eq!(rt;
-            around.report.bytes(),
-            b"refused 74 read image\n".as_slice()
-        );
+        assert_eq!(rt; around.report.bytes(), line);
     }
-    assert!(rt; covered >= 1);
     Ok(())
 }
 
@@ -96,7 +104,8 @@ fn little_room_cuts_the_output(rt: HostRuntime) -> Result<(), Fail> {
 fn little_room_cuts_the_report(rt: HostRuntime) -> Result<(), Fail> {
     let alloc = rt.alloc();
     let bytes = image(alloc, &HI)?;
-    for room in 0..349 {
+    for tens in 0..35 {
+        let room = 10 * tens;
         let mut around = Surroundings::ample(alloc, &bytes)?;
         around.report = MemSink::new(alloc, room, &[])?;
         assert_eq!(rt; around.command(alloc, &RUN)?, 75, "room {room}");
@@ -116,8 +125,8 @@ struct Refusal<'a> {
     line: &'a [u8],
 }
 
-/// A refusal of each kind, where this image is of a form that is not built yet.
-fn refusals(later: &[u8]) -> [Refusal<'_>; 4] {
+/// A refusal of each kind, where this image has other flags.
+fn refusals(flags: &[u8]) -> [Refusal<'_>; 4] {
     [
         Refusal {
             words: &["run"],
@@ -133,9 +142,9 @@ fn refusals(later: &[u8]) -> [Refusal<'_>; 4] {
         },
         Refusal {
             words: &RUN,
-            image: later,
-            status: 70,
-            line: b"refused 70 later\n",
+            image: flags,
+            status: 65,
+            line: b"refused 65 image 8 Flags\n",
         },
         Refusal {
             words: &["run", "--image", "none"],
@@ -149,13 +158,13 @@ fn refusals(later: &[u8]) -> [Refusal<'_>; 4] {
 #[test]
 fn a_refusal_keeps_its_status_where_its_line_fails(rt: HostRuntime) -> Result<(), Fail> {
     let alloc = rt.alloc();
-    let later = echo_image(alloc)?;
+    let flags = echo_image(alloc, 1)?;
     for Refusal {
         words,
         image,
         status,
         line,
-    } in refusals(&later) {
+    } in refusals(&flags) {
         let mut covered = 0;
         for call in 0..1000 {
             let mut around = Surroundings::ample(alloc, image)?;
@@ -179,13 +188,13 @@ fn a_refusal_keeps_its_status_where_its_line_fails(rt: HostRuntime) -> Result<()
 #[test]
 fn a_refusal_keeps_its_status_in_little_room(rt: HostRuntime) -> Result<(), Fail> {
     let alloc = rt.alloc();
-    let later = echo_image(alloc)?;
+    let flags = echo_image(alloc, 1)?;
     for Refusal {
         words,
         image,
         status,
         line,
-    } in refusals(&later) {
+    } in refusals(&flags) {
         for room in 0..line.len() {
             let mut around = Surroundings::ample(alloc, image)?;
             around.report = MemSink::new(alloc, room, &[])?;

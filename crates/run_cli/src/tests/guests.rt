@@ -3,94 +3,121 @@ use super::*;
 
 /// `hi` with its buffer at address 0 and with no `li a0, 0`: exits with the low byte of -14.
 const NO_BUFFER: [u32; 10] = [
-    0x0001_05b7,
-    0x0000_05b7,
-    0x0010_0513,
-    0x0030_0613,
-    0x0400_0893,
-    0x0000_0073,
-    0x0000_0013,
-    0x05d0_0893,
-    0x0000_0073,
-    0x000a_6968,
+    0x000105b7, 0x000005b7, 0x00100513, 0x00300613, 0x04000893, 0x00000073, 0x00000013, 0x05d00893,
+    0x00000073, 0x000a6968,
 ];
 
-/// `hi` with call 57 in place of 64, which is no call of this system, so that nothing is written.
+/// `hi` with call 57 in place of 64, which is no call of this system, and with no `li a0, 0`: exits with the low byte
+/// of -38.
 const OTHER_CALL: [u32; 10] = [
-    0x0001_05b7,
-    0x0245_8593,
-    0x0010_0513,
-    0x0030_0613,
-    0x0390_0893,
-    0x0000_0073,
-    0x0000_0513,
-    0x05d0_0893,
-    0x0000_0073,
-    0x000a_6968,
+    0x000105b7, 0x02458593, 0x00100513, 0x00300613, 0x03900893, 0x00000073, 0x00000013, 0x05d00893,
+    0x00000073, 0x000a6968,
 ];
 
 /// `li a0, 3; li a7, 93; ecall`
-const EXIT_THREE: [u32; 3] = [0x0030_0513, 0x05d0_0893, 0x0000_0073];
+const EXIT_THREE: [u32; 3] = [0x00300513, 0x05d00893, 0x00000073];
 
 /// `li t0, 7; sw t0, 0(zero)`
-const BAD_STORE: [u32; 2] = [0x0070_0293, 0x0050_2023];
+const BAD_STORE: [u32; 2] = [0x00700293, 0x00502023];
 
 /// `addi t0, sp, -16; lr.w t1, (t0); addi t1, t1, 1; sc.w a0, t1, (t0); li a7, 93; ecall`
 const RESERVE: [u32; 6] = [
-    0xff01_0293,
-    0x1002_a32f,
-    0x0013_0313,
-    0x1862_a52f,
-    0x05d0_0893,
-    0x0000_0073,
+    0xff010293, 0x1002a32f, 0x00130313, 0x1862a52f, 0x05d00893, 0x00000073,
 ];
 
 /// The same with `lw t2, 0(t0)` in place of the addition.
 const READ_BETWEEN: [u32; 6] = [
-    0xff01_0293,
-    0x1002_a32f,
-    0x0002_a383,
-    0x1862_a52f,
-    0x05d0_0893,
-    0x0000_0073,
+    0xff010293, 0x1002a32f, 0x0002a383, 0x1862a52f, 0x05d00893, 0x00000073,
 ];
 
-/// Adds 1 to a word by load-reserved and store-conditional, and exits with what the latter gave. Core 1 would store.
+/// Core 0 adds 1 to a word by load-reserved and store-conditional, and exits with what the latter gave; core 1 stores.
 const LRSC: [u32; 9] = [
-    0x0001_12b7,
-    0x0005_1863,
-    0x1002_a32f,
-    0x1862_a3af,
-    0x0080_006f,
-    0x0002_a023,
-    0x05d0_0893,
-    0x0003_8513,
-    0x0000_0073,
+    0x000112b7, 0x00051863, 0x1002a32f, 0x1862a3af, 0x0080006f, 0x0002a023, 0x05d00893, 0x00038513,
+    0x00000073,
+];
+
+/// Each core stores 1 to a word of its own, and exits with what it then loads from the word of the other core.
+const STORE_BUFFERING: [u32; 11] = [
+    0x000112b7, 0x00251313, 0x00628333, 0x00154393, 0x00239393, 0x007283b3, 0x00100413, 0x00832023,
+    0x0003a503, 0x05d00893, 0x00000073,
 ];
 
 /// Adds 1 to a word a thousand times.
 const COUNT: [u32; 9] = [
-    0x0001_12b7,
-    0x0010_0313,
-    0x3e80_0393,
-    0x0062_a02f,
-    0xfff3_8393,
-    0xfe03_9ce3,
-    0x0000_0513,
-    0x05d0_0893,
-    0x0000_0073,
+    0x000112b7, 0x00100313, 0x3e800393, 0x0062a02f, 0xfff38393, 0xfe039ce3, 0x00000513, 0x05d00893,
+    0x00000073,
 ];
 
-/// How each report of these guests begins.
-const NUMBERS: &[u8] =
-    b"taint-report 1\ncores 1\nbudget 1048576\nlimit 4294967280\nstack 16\nheap 256\n";
+/// Asks for the break with a wish of 0, and exits with what it was told, divided by 4,096.
+const BREAK: [u32; 6] = [
+    0x00000513, 0x0d600893, 0x00000073, 0x00c55513, 0x05d00893, 0x00000073,
+];
+
+/// `lui t0, 1; sub t0, sp, t0; sw a0, 0(t0); lw a0, 0(t0); li a7, 93; ecall`: uses the second page of the stack.
+const OWN_STACK: [u32; 6] = [
+    0x000012b7, 0x405102b3, 0x00a2a023, 0x0002a503, 0x05d00893, 0x00000073,
+];
+
+/// Reads four bytes and jumps to the address that they are, at which it stores twice and then asks for a write.
+const JUMP: [u32; 13] = [
+    0x00000513, 0x000115b7, 0x00400613, 0x03f00893, 0x00000073, 0x0005a283, 0x00028067, 0x00000013,
+    0x00c5a223, 0x00c5a423, 0x00100513, 0x04000893, 0x00000073,
+];
+
+/// Reads four bytes and writes them.
+const PASS: [u32; 11] = [
+    0x00000513, 0x000115b7, 0x00400613, 0x03f00893, 0x00000073, 0x00100513, 0x04000893, 0x00000073,
+    0x00000513, 0x05d00893, 0x00000073,
+];
+
+/// Reads five bytes to the last two of a word and the first three of the next, and writes them.
+const ODD: [u32; 12] = [
+    0x00000513, 0x000115b7, 0x00258593, 0x00500613, 0x03f00893, 0x00000073, 0x00100513, 0x04000893,
+    0x00000073, 0x00000513, 0x05d00893, 0x00000073,
+];
+
+/// Reads one byte, loads the byte after it, and jumps by that.
+const BYTE_JUMP: [u32; 13] = [
+    0x00000513, 0x000115b7, 0x00100613, 0x03f00893, 0x00000073, 0x0015c283, 0x00010337, 0x006282b3,
+    0x02828067, 0x00000013, 0x00000513, 0x05d00893, 0x00000073,
+];
+
+/// Stores to the page of its own code, which the second segment makes writable, and writes 4,096 bytes from 0x10802 on;
+/// exits with the count of bytes divided by 4,096.
+const WIDE_WRITE: [u32; 13] = [
+    0x000102b7, 0x0002a023, 0x000115b7, 0x80258593, 0x04100313, 0x00658023, 0x00100513, 0x00001637,
+    0x04000893, 0x00000073, 0x00c55513, 0x05d00893, 0x00000073,
+];
+
+/// What every report of these guests tells of its setup, with the usual options.
+const USUAL: &[u8] = b"cores 1\nbudget 1048576\nlimit 4294967280\nstack 16\nheap 256\n";
+
+/// How a report ends where one core exits with 0 and none has a trap.
+const FINE: &[u8] = b"traps 0\nends 1\n0 exit 0\nend\n";
+
+/// An image of two segments on one page: code, which may be executed, and 4,096 bytes from 0x10800 on, which may be
+/// written.
+fn two_segments(alloc: Global, program: &[u32]) -> Result<Vec<u8>, AllocError> {
+    let size = u32::try_from(program.len()).unwrap_or(0).wrapping_mul(4);
+    let mut bytes = Vec::new(alloc);
+    push_words(&mut bytes, &HEADERS[..6])?;
+    push_words(&mut bytes, &[0x0001_0000, 52, 0, 0, 0x0020_0034, 2, 0])?;
+    push_words(
+        &mut bytes,
+        &[1, 116, 0x0001_0000, 0x0001_0000, size, size, 5, 4],
+    )?;
+    push_words(&mut bytes, &[1, 0, 0x0001_0800, 0x0001_0800, 0, 4096, 6, 4])?;
+    push_words(&mut bytes, program)?;
+    Ok(bytes)
+}
 
 #[test]
 fn hi_has_its_whole_report(rt: HostRuntime) -> Result<(), Fail> {
     let alloc = rt.alloc();
     let bytes = image(alloc, &HI)?;
     let mut around = Surroundings::ample(alloc, &bytes)?;
-    assert_eq!(rt; around.command(alloc, &RUN)?, 0);
+    let words = ["run", "--image=guest.elf", "--cores=1"];
+    assert_eq!(rt; around.command(alloc, &words)?, 0);
     assert_eq!(rt; around.out.bytes(), HI_OUTPUT);
     assert_eq!(rt; around.report.bytes(), HI_REPORT);
     assert_eq!(rt; around.report.bytes().len(), 349);
@@ -98,73 +125,296 @@ fn hi_has_its_whole_report(rt: HostRuntime) -> Result<(), Fail> {
 }
 
 #[test]
-fn guests_run_to_their_ends(rt: HostRuntime) -> Result<(), Fail> {
+fn guests_on_one_core_run_to_their_ends(rt: HostRuntime) -> Result<(), Fail> {
     let alloc = rt.alloc();
-    // The guest, its program, the status, and the end of the report.
-    let cases: [(&str, &[u32], u8, &[u8]); 7] = [
+    // The guest, its program, the status, and how the report goes on after the numbers, and how it ends.
+    let cases: [(&str, &[u32], u8, &[u8], &[u8]); 10] = [
         (
             "no buffer",
             &NO_BUFFER,
             1,
+            b"units 10\n",
             b"traps 0\nends 1\n0 exit 242\nend\n",
         ),
         (
             "other call",
             &OTHER_CALL,
-            0,
-            b"traps 0\nends 1\n0 exit 0\nend\n",
+            1,
+            b"units 10\n",
+            b"traps 0\nends 1\n0 exit 218\nend\n",
         ),
         (
             "exit with 3",
             &EXIT_THREE,
             1,
+            b"units 3\n",
             b"traps 0\nends 1\n0 exit 3\nend\n",
         ),
         (
             "bad store",
             &BAD_STORE,
             3,
+            b"units 2\n",
             b"traps 0\nends 1\n0 fault 7\nend\n",
         ),
-        ("reserve", &RESERVE, 0, b"traps 0\nends 1\n0 exit 0\nend\n"),
+        ("reserve", &RESERVE, 0, b"units 6\n", FINE),
         (
             "read between",
             &READ_BETWEEN,
             1,
+            b"units 6\n",
             b"traps 0\nends 1\n0 exit 1\nend\n",
         ),
-        ("count", &COUNT, 0, b"traps 0\nends 1\n0 exit 0\nend\n"),
+        (
+            "reserve for core 1",
+            &LRSC,
+            0,
+            b"units 8\n0\n0\n0 1027 0 00000000\n0 1027 1 00000000\n",
+            FINE,
+        ),
+        (
+            "break",
+            &BREAK,
+            1,
+            b"units 8\n0\n0\n0\n0 2 0 00011000\n0\n0\n0\n0\ncalls 2\n",
+            b"traps 0\nends 1\n0 exit 17\nend\n",
+        ),
+        (
+            "zeros",
+            &[0],
+            3,
+            b"units 1\n0\ncalls 0\n",
+            b"traps 0\nends 1\n0 fault 1\nend\n",
+        ),
+        (
+            "ebreak",
+            &[0x0010_0073],
+            3,
+            b"units 1\n0\ncalls 0\n",
+            b"traps 0\nends 1\n0 fault 9\nend\n",
+        ),
     ];
-    for (guest, program, status, end) in cases {
+    for (guest, program, status, rest, tail) in cases {
         let bytes = image(alloc, program)?;
-        let mut around = Surroundings::ample(alloc, &bytes)?;
-        assert_eq!(rt; around.command(alloc, &RUN)?, status, "{guest}");
-        assert_eq!(rt; around.out.calls(), 0, "{guest}");
-        assert!(rt; around.report.bytes().ends_with(end), "{guest}");
+        let mut head = Vec::from_slice(alloc, USUAL)?;
+        head.extend_from_slice(rest)?;
+        let case = Case {
+            head: &head,
+            ..plain(guest, &bytes, status, b"", tail)
+        };
+        try_case(&rt, alloc, &case)?;
     }
     Ok(())
 }
 
 #[test]
-fn reports_tell_units_accesses_and_faults(rt: HostRuntime) -> Result<(), Fail> {
+fn cores_share_words_and_have_stacks_of_their_own(rt: HostRuntime) -> Result<(), Fail> {
     let alloc = rt.alloc();
-    let reserved = b"units 8\n0\n0\n0 1027 0 00000000\n0 1027 1 00000000\n";
-    let illegal = b"units 1\n0\ncalls 0\ntraps 0\nends 1\n0 fault 1\nend\n";
-    let break_point = b"units 1\n0\ncalls 0\ntraps 0\nends 1\n0 fault 9\nend\n";
-    // The guest, its program, the status, and what comes after the numbers.
-    let cases: [(&str, &[u32], u8, &[u8]); 4] = [
-        ("reserve for core 1", &LRSC, 0, reserved),
-        ("count", &COUNT, 0, b"units 3006\n"),
-        ("zeros", &[0], 3, illegal),
-        ("break", &[0x0010_0073], 3, break_point),
+    let count = image(alloc, &COUNT)?;
+    let buffering = image(alloc, &STORE_BUFFERING)?;
+    let stack = image(alloc, &OWN_STACK)?;
+    let echo = echo_image(alloc, 0)?;
+    let fine = b"traps 0\nends 2\n0 exit 0\n1 exit 0\nend\n";
+    let echoed = &["--cores", "2", "--input", "input"];
+    let cases = [
+        Case {
+            options: &["--cores", "8"],
+            head: b"cores 8\nbudget 1048576\nlimit 4294967280\nstack 16\nheap 256\nunits 24048\n",
+            ..plain("count", &count, 0, b"", b"6 exit 0\n7 exit 0\nend\n")
+        },
+        Case {
+            options: &["--limit", "1", "--cores", "2"],
+            head: b"cores 2\nbudget 1048576\nlimit 1\nstack 16\nheap 256\nunits 11\n\
+                0\n1\n0\n1\n0\n1\n0 1027 0 00000000\n1 1027 1 00000001\n0\n0\n0 1027 2 00000001\n",
+            ..plain(
+                "spent",
+                &count,
+                5,
+                b"",
+                b"calls 0\ntraps 0\nends 2\n0 spent\n1 spent\nend\n",
+            )
+        },
+        Case {
+            options: &["--heap", "0"],
+            ..plain(
+                "no heap",
+                &count,
+                3,
+                b"",
+                b"traps 0\nends 1\n0 fault 7\nend\n",
+            )
+        },
+        Case {
+            options: &["--cores", "2"],
+            ..plain(
+                "store buffering",
+                &buffering,
+                1,
+                b"",
+                b"ends 2\n0 exit 1\n1 exit 1\nend\n",
+            )
+        },
+        Case {
+            options: &["--stack", "2", "--cores", "2"],
+            ..plain(
+                "two pages of stack",
+                &stack,
+                1,
+                b"",
+                b"ends 2\n0 exit 0\n1 exit 1\nend\n",
+            )
+        },
+        Case {
+            options: &["--stack=1", "--cores=2"],
+            ..plain(
+                "one page of stack",
+                &stack,
+                3,
+                b"",
+                b"ends 2\n0 fault 7\n1 fault 7\nend\n",
+            )
+        },
+        Case {
+            options: echoed,
+            input: b"hello\n",
+            head: b"cores 2\nbudget 1048576\nlimit 4294967280\nstack 16\nheap 256\nunits 42\n",
+            ..plain("echo", &echo, 0, b"hello\n", fine)
+        },
+        Case {
+            options: echoed,
+            head: b"cores 2\nbudget 1048576\nlimit 4294967280\nstack 16\nheap 256\nunits 36\n",
+            ..plain("echo of nothing", &echo, 0, b"", fine)
+        },
     ];
-    for (guest, program, status, rest) in cases {
-        let bytes = image(alloc, program)?;
-        let mut text = Vec::from_slice(alloc, NUMBERS)?;
-        text.extend_from_slice(rest)?;
-        let mut around = Surroundings::ample(alloc, &bytes)?;
-        assert_eq!(rt; around.command(alloc, &RUN)?, status, "{guest}");
-        assert!(rt; around.report.bytes().starts_with(&text), "{guest}");
+    for case in cases {
+        try_case(&rt, alloc, &case)?;
+    }
+    Ok(())
+}
+
+#[test]
+fn a_write_crosses_pages_and_pages_join_permissions(rt: HostRuntime) -> Result<(), Fail> {
+    let alloc = rt.alloc();
+    let bytes = two_segments(alloc, &WIDE_WRITE)?;
+    let mut out = Vec::from_slice(alloc, b"A")?;
+    out.resize(4096, 0)?;
+    try_case(
+        &rt,
+        alloc,
+        &plain(
+            "wide write",
+            &bytes,
+            1,
+            &out,
+            b"traps 0\nends 1\n0 exit 1\nend\n",
+        ),
+    )
+}
+
+#[test]
+fn policies_stop_what_they_check(rt: HostRuntime) -> Result<(), Fail> {
+    let alloc = rt.alloc();
+    let jump = image(alloc, &JUMP)?;
+    let pass = image(alloc, &PASS)?;
+    let odd = image(alloc, &ODD)?;
+    let byte_jump = image(alloc, &BYTE_JUMP)?;
+    let target = b"\x20\x00\x01\x00";
+    let sink = b"version = 1\n[[policy]]\nsource = true\ncheck_sink = true\n";
+    let bytes =
+        b"version = 2\n[[policy]]\nsource = true\ncheck_jump = true\ncheck_call_number = true\n";
+    let input = &["--input", "input"];
+    let both = &["--input", "input", "--policy", "policy.toml"];
+    let cases = [
+        Case {
+            options: input,
+            input: target,
+            head: b"cores 1\nbudget 1048576\nlimit 4294967280\nstack 16\nheap 256\nunits 15\n",
+            ..plain(
+                "jump",
+                &jump,
+                2,
+                b"",
+                b"0 14 00010030 call 64 00000000000000000000000000100000 0 stop\n\
+                traps 1\n0 9 00010018 1 1\nends 1\n0 trapped\nend\n",
+            )
+        },
+        Case {
+            options: &["--input", "input", "--budget", "6"],
+            input: target,
+            head: b"cores 1\nbudget 6\nlimit 4294967280\nstack 16\nheap 256\nunits 6\n\
+                0\n0\n0\n0\n0\n0 0 0 00000000\ncalls 1\n",
+            ..plain(
+                "jump of 6 units",
+                &jump,
+                4,
+                b"",
+                b"traps 0\nends 1\n0 budget\nend\n",
+            )
+        },
+        Case {
+            options: &["--input", "input", "--budget", "10"],
+            input: target,
+            ..plain(
+                "jump of 10 units",
+                &jump,
+                2,
+                b"",
+                b"traps 1\n0 9 00010018 1 1\nends 1\n0 budget\nend\n",
+            )
+        },
+        Case {
+            options: both,
+            input: b"abcd",
+            policy: sink,
+            head: b"cores 1\nbudget 1048576\nlimit 4294967280\nstack 16\nheap 256\nunits 13\n",
+            ..plain(
+                "pass",
+                &pass,
+                2,
+                b"",
+                b"0 1027 1 64636261\n0\ncalls 3\n\
+                0 4 00010010 call 63 00000000000000000000000000000000 0 go\n\
+                0 10 0001001c call 64 00000000000000000000000000000000 0 go\n\
+                0 12 0001001c sink 64 00000000000000000000000000000000 1 stop\n\
+                traps 1\n0 12 0001001c 7 1\nends 1\n0 trapped\nend\n",
+            )
+        },
+        Case {
+            options: input,
+            input: b"ABCDE",
+            head: b"cores 1\nbudget 1048576\nlimit 4294967280\nstack 16\nheap 256\nunits 21\n\
+                0\n0\n0\n0\n0\n0\n0 0 0 00000000\n0 1027 0 00000000\n0 1028 0 00000000\n\
+                0\n0\n0\n0\n0 1027 1 42410000\n0 1028 1 00454443\n",
+            ..plain("odd", &odd, 0, b"ABCDE", FINE)
+        },
+        Case {
+            options: input,
+            input: b"\0",
+            head: b"cores 1\nbudget 1048576\nlimit 4294967280\nstack 16\nheap 256\nunits 15\n",
+            ..plain(
+                "jump by the next byte",
+                &byte_jump,
+                2,
+                b"",
+                b"traps 1\n0 11 00010020 1 1\nends 1\n0 trapped\nend\n",
+            )
+        },
+        Case {
+            options: both,
+            input: b"\0",
+            policy: bytes,
+            head: b"cores 1\nbudget 1048576\nlimit 4294967280\nstack 16\nheap 256\nunits 15\n",
+            ..plain(
+                "jump by the next byte, with tags of bytes",
+                &byte_jump,
+                0,
+                b"",
+                FINE,
+            )
+        },
+    ];
+    for case in cases {
+        try_case(&rt, alloc, &case)?;
     }
     Ok(())
 }

@@ -13,7 +13,7 @@ struct Answer<'a> {
 }
 
 /// A run, and a refusal of each kind.
-fn answers<'a>(hi: &'a [u8], later: &'a [u8]) -> [Answer<'a>; 5] {
+fn answers<'a>(hi: &'a [u8], flags: &'a [u8]) -> [Answer<'a>; 5] {
     [
         Answer {
             words: &RUN,
@@ -38,10 +38,10 @@ fn answers<'a>(hi: &'a [u8], later: &'a [u8]) -> [Answer<'a>; 5] {
         },
         Answer {
             words: &RUN,
-            image: later,
-            status: 70,
+            image: flags,
+            status: 65,
             out: b"",
-            report: b"refused 70 later\n",
+            report: b"refused 65 image 8 Flags\n",
         },
         Answer {
             words: &["run", "--image", "none"],
@@ -53,12 +53,9 @@ fn answers<'a>(hi: &'a [u8], later: &'a [u8]) -> [Answer<'a>; 5] {
     ]
 }
 
-/// The image of `hi`, and one of a form that is not built yet.
+/// The image of `hi`, and one with other flags.
 fn images(alloc: Global) -> Result<(Vec<u8>, Vec<u8>), AllocError> {
-    let hi = image(alloc, &HI)?;
-    let mut later = image(alloc, &HI)?;
-    later.push(0)?;
-    Ok((hi, later))
+    Ok((image(alloc, &HI)?, echo_image(alloc, 1)?))
 }
 
 /// The status of a command, and what it left.
@@ -72,10 +69,10 @@ fn answered(alloc: Global, answer: &Answer<'_>) -> Result<(u8, Surroundings), Al
 fn want_of_memory_is_the_only_other_answer(rt: HostRuntime) -> Result<(), Fail> {
     let alloc = rt.alloc();
     // Where the test itself finds no memory, it shows nothing.
-    let Ok((hi, later)) = images(alloc) else {
+    let Ok((hi, flags)) = images(alloc) else {
         return Ok(());
     };
-    for answer in answers(&hi, &later) {
+    for answer in answers(&hi, &flags) {
         let Ok((status, around)) = answered(alloc, &answer) else {
             return Ok(());
         };

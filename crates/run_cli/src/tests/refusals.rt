@@ -1,33 +1,60 @@
-//! Words and images that are refused.
+//! Words, images and policies that are refused.
 use super::*;
 
 #[test]
-fn other_images_are_refused(rt: HostRuntime) -> Result<(), Fail> {
+fn other_files_are_refused(rt: HostRuntime) -> Result<(), Fail> {
     let alloc = rt.alloc();
-    let echo = echo_image(alloc)?;
-    let most = image(alloc, &[0; 1024])?;
-    let longer = image(alloc, &[0; 1025])?;
-    let mut odd = image(alloc, &HI)?;
-    odd.push(0)?;
-    // The bytes of the image, the status, and the whole report or its beginning.
-    let cases: [(&[u8], u8, &[u8]); 8] = [
-        (b"", 65, b"refused 65 image 1 Short\n"),
-        (&[0; 51], 65, b"refused 65 image 1 Short\n"),
-        (&[0; 52], 70, b"refused 70 later\n"),
-        (&echo, 70, b"refused 70 later\n"),
-        (&odd, 70, b"refused 70 later\n"),
-        (&longer, 70, b"refused 70 later\n"),
-        (&[0; 4181], 70, b"refused 70 later\n"),
-        (&most, 3, b"taint-report 1\n"),
+    let hi = image(alloc, &HI)?;
+    let flags = echo_image(alloc, 1)?;
+    let mut long_image = Vec::new(alloc);
+    long_image.resize(33_554_433, 0)?;
+    let long_policy = &long_image[..65_537];
+    let long_input = &long_image[..16_777_217];
+    let five =
+        b"version = 1\n[[policy]]\nsource = true\n[[policy]]\nsource = true\n[[policy]]\nsource = true\n\
+        [[policy]]\nsource = true\n[[policy]]\nsource = true\n";
+    let xor = b"version = 1\n[[policy]]\nsource = true\narith = \"xor\"\n";
+    // The image, the policy, the input, the status, and the line.
+    let cases: [(&[u8], &[u8], &[u8], u8, &[u8]); 9] = [
+        (b"", b"", b"", 65, b"refused 65 image 1 Short\n"),
+        (&[0; 52], b"", b"", 65, b"refused 65 image 2 Magic\n"),
+        (&flags, b"", b"", 65, b"refused 65 image 8 Flags\n"),
+        (&long_image, b"", b"", 69, b"refused 69 long image\n"),
+        (&hi, b"", b"", 66, b"refused 66 policy 3 MissingKey 0 1\n"),
+        (
+            &hi,
+            five,
+            long_input,
+            66,
+            b"refused 66 policy 5 TooMany 0 2\n",
+        ),
+        (&hi, xor, b"", 66, b"refused 66 policy 6 BadValue 1 2\n"),
+        (&hi, long_policy, b"", 69, b"refused 69 long policy\n"),
+        (
+            &hi,
+            b"version = 2\npolicy = []\n",
+            long_input,
+            69,
+            b"refused 69 long input\n",
+        ),
     ];
-    for (bytes, status, report) in cases {
+    let words = [
+        "run",
+        "--image",
+        "guest.elf",
+        "--input",
+        "input",
+        "--policy",
+        "policy.toml",
+    ];
+    for (bytes, policy, input, status, line) in cases {
         let mut around = Surroundings::ample(alloc, bytes)?;
+        around.files.add(alloc, "policy.toml", policy)?;
+        around.files.add(alloc, "input", input)?;
         let length = bytes.len();
-        assert_eq!(rt; around.command(alloc, &RUN)?, status, "{length} bytes");
+        assert_eq!(rt; around.command(alloc, &words)?, status, "{length} bytes");
         assert_eq!(rt; around.out.calls(), 0, "{length} bytes");
-        assert!(rt; around.report.bytes().starts_with(report), "{length} bytes");
-        let is_whole = around.report.bytes().len() == report.len();
-        assert_eq!(rt; is_whole, status > 5, "{length} bytes");
+        assert_eq!(rt; around.report.bytes(), line, "{length} bytes");
     }
     Ok(())
 }
@@ -36,7 +63,7 @@ fn other_images_are_refused(rt: HostRuntime) -> Result<(), Fail> {
 fn other_words_are_refused(rt: HostRuntime) -> Result<(), Fail> {
     let alloc = rt.alloc();
     let bytes = image(alloc, &HI)?;
-    let cases: [&[&str]; 14] = [
+    let cases: [&[&str]; 19] = [
         &[],
         &["--help"],
         &["run"],
@@ -47,8 +74,13 @@ fn other_words_are_refused(rt: HostRuntime) -> Result<(), Fail> {
         &["run", "--image", "guest.elf", "guest.elf"],
         &["run", "--image", "guest.elf", "--cores", "9"],
         &["run", "--image", "guest.elf", "--cores", "01"],
+        &["run", "--image", "guest.elf", "--cores", "0"],
+        &["run", "--image", "guest.elf", "--budget", "1048577"],
+        &["run", "--image", "guest.elf", "--limit=4294967281"],
+        &["run", "--image", "guest.elf", "--heap=4097"],
+        &["run", "--image", "guest.elf", "--lane=+1"],
         &["run", "--image", "guest.elf", "--image", "other.elf"],
-        &["run", "--image=guest.elf"],
+        &["run", "--image", "guest.elf", "--other", "1"],
         &["Run", "--image", "guest.elf"],
         &["--image", "guest.elf", "run"],
     ];

@@ -1,0 +1,16 @@
+-- What private functions give; no public contract needs these forms.
+use Rattle.elf_image.specs.declared.fault.ImageFault.{ImageFault}
+use Rattle.elf_image.specs.declared.fault.ImageFault.TheVariants.{NoMemory as NoImageMemory}
+use Rattle.tag_policy.specs.declared.fault.PolicyFault.{PolicyFault}
+use Rattle.tag_policy.specs.declared.fault.PolicyFault.TheVariants.{Bad, NoMemory as NoPolicyMemory}
+use Rattle.run_cli.specs.declared.ending.Ending.{Ending}
+use Rattle.run_cli.specs.declared.ending.Ending.TheVariants.{Image, Policy, Memory}
+
+-- the ending of a fault of the image, and of one of the policy
+abbrev pub image_ending : ImageFault → Ending
+image_ending NoImageMemory = Memory
+image_ending fault = Image fault
+
+abbrev pub policy_ending : PolicyFault → Ending
+policy_ending (Bad kind table key) = Policy kind table key
+policy_ending NoPolicyMemory = Memory
