@@ -9,6 +9,7 @@ mod examples;
 mod faults;
 mod guests;
 mod memory;
+mod policies;
 mod refusals;
 
 /// The headers of a small image, up to the two sizes of its segment.
@@ -151,6 +152,9 @@ fn strings(alloc: Global, words: &[&str]) -> Result<Vec<String>, AllocError> {
     }
     Ok(strings)
 }
+
+/// How a report ends where one core exits with 0 and none has a trap.
+const FINE: &[u8] = b"traps 0\nends 1\n0 exit 0\nend\n";
 
 /// The words that run the guest.
 const RUN: [&str; 3] = ["run", "--image", "guest.elf"];

@@ -193,9 +193,6 @@ const SINK_BYTES: &[u8] = b"version = 2\n[[policy]]\nsource = true\ncheck_sink =
 const SORTED: &[u8] =
     b"-2147483647\n-100\n-7\n-1\n0\n3\n3\n7\n10\n42\n99\n256\n1000\n65536\n12345678\n2147483647\n";
 
-/// How a report ends where one core exits with 0 and none has a trap.
-const FINE: &[u8] = b"traps 0\nends 1\n0 exit 0\nend\n";
-
 #[test]
 fn guests_without_input_write_what_is_known(rt: HostRuntime) -> Result<(), Fail> {
     let alloc = rt.alloc();

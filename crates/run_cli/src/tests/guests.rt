@@ -58,30 +58,6 @@ const OWN_STACK: [u32; 6] = [
     0x000012b7, 0x405102b3, 0x00a2a023, 0x0002a503, 0x05d00893, 0x00000073,
 ];
 
-/// Reads four bytes and jumps to the address that they are, at which it stores twice and then asks for a write.
-const JUMP: [u32; 13] = [
-    0x00000513, 0x000115b7, 0x00400613, 0x03f00893, 0x00000073, 0x0005a283, 0x00028067, 0x00000013,
-    0x00c5a223, 0x00c5a423, 0x00100513, 0x04000893, 0x00000073,
-];
-
-/// Reads four bytes and writes them.
-const PASS: [u32; 11] = [
-    0x00000513, 0x000115b7, 0x00400613, 0x03f00893, 0x00000073, 0x00100513, 0x04000893, 0x00000073,
-    0x00000513, 0x05d00893, 0x00000073,
-];
-
-/// Reads five bytes to the last two of a word and the first three of the next, and writes them.
-const ODD: [u32; 12] = [
-    0x00000513, 0x000115b7, 0x00258593, 0x00500613, 0x03f00893, 0x00000073, 0x00100513, 0x04000893,
-    0x00000073, 0x00000513, 0x05d00893, 0x00000073,
-];
-
-/// Reads one byte, loads the byte after it, and jumps by that.
-const BYTE_JUMP: [u32; 13] = [
-    0x00000513, 0x000115b7, 0x00100613, 0x03f00893, 0x00000073, 0x0015c283, 0x00010337, 0x006282b3,
-    0x02828067, 0x00000013, 0x00000513, 0x05d00893, 0x00000073,
-];
-
 /// Stores to the page of its own code, which the second segment makes writable, and writes 4,096 bytes from 0x10802 on;
 /// exits with the count of bytes divided by 4,096.
 const WIDE_WRITE: [u32; 13] = [
@@ -91,9 +67,6 @@ const WIDE_WRITE: [u32; 13] = [
 
 /// What every report of these guests tells of its setup, with the usual options.
 const USUAL: &[u8] = b"cores 1\nbudget 1048576\nlimit 4294967280\nstack 16\nheap 256\n";
-
-/// How a report ends where one core exits with 0 and none has a trap.
-const FINE: &[u8] = b"traps 0\nends 1\n0 exit 0\nend\n";
 
 /// An image of two segments on one page: code, which may be executed, and 4,096 bytes from 0x10800 on, which may be
 /// written.
@@ -309,112 +282,4 @@ fn a_write_crosses_pages_and_pages_join_permissions(rt: HostRuntime) -> Result<(
             b"traps 0\nends 1\n0 exit 1\nend\n",
         ),
     )
-}
-
-#[test]
-fn policies_stop_what_they_check(rt: HostRuntime) -> Result<(), Fail> {
-    let alloc = rt.alloc();
-    let jump = image(alloc, &JUMP)?;
-    let pass = image(alloc, &PASS)?;
-    let odd = image(alloc, &ODD)?;
-    let byte_jump = image(alloc, &BYTE_JUMP)?;
-    let target = b"\x20\x00\x01\x00";
-    let sink = b"version = 1\n[[policy]]\nsource = true\ncheck_sink = true\n";
-    let bytes =
-        b"version = 2\n[[policy]]\nsource = true\ncheck_jump = true\ncheck_call_number = true\n";
-    let input = &["--input", "input"];
-    let both = &["--input", "input", "--policy", "policy.toml"];
-    let cases = [
-        Case {
-            options: input,
-            input: target,
-            head: b"cores 1\nbudget 1048576\nlimit 4294967280\nstack 16\nheap 256\nunits 15\n",
-            ..plain(
-                "jump",
-                &jump,
-                2,
-                b"",
-                b"0 14 00010030 call 64 00000000000000000000000000100000 0 stop\n\
-                traps 1\n0 9 00010018 1 1\nends 1\n0 trapped\nend\n",
-            )
-        },
-        Case {
-            options: &["--input", "input", "--budget", "6"],
-            input: target,
-            head: b"cores 1\nbudget 6\nlimit 4294967280\nstack 16\nheap 256\nunits 6\n\
-                0\n0\n0\n0\n0\n0 0 0 00000000\ncalls 1\n",
-            ..plain(
-                "jump of 6 units",
-                &jump,
-                4,
-                b"",
-                b"traps 0\nends 1\n0 budget\nend\n",
-            )
-        },
-        Case {
-            options: &["--input", "input", "--budget", "10"],
-            input: target,
-            ..plain(
-                "jump of 10 units",
-                &jump,
-                2,
-                b"",
-                b"traps 1\n0 9 00010018 1 1\nends 1\n0 budget\nend\n",
-            )
-        },
-        Case {
-            options: both,
-            input: b"abcd",
-            policy: sink,
-            head: b"cores 1\nbudget 1048576\nlimit 4294967280\nstack 16\nheap 256\nunits 13\n",
-            ..plain(
-                "pass",
-                &pass,
-                2,
-                b"",
-                b"0 1027 1 64636261\n0\ncalls 3\n\
-                0 4 00010010 call 63 00000000000000000000000000000000 0 go\n\
-                0 10 0001001c call 64 00000000000000000000000000000000 0 go\n\
-                0 12 0001001c sink 64 00000000000000000000000000000000 1 stop\n\
-                traps 1\n0 12 0001001c 7 1\nends 1\n0 trapped\nend\n",
-            )
-        },
-        Case {
-            options: input,
-            input: b"ABCDE",
-            head: b"cores 1\nbudget 1048576\nlimit 4294967280\nstack 16\nheap 256\nunits 21\n\
-                0\n0\n0\n0\n0\n0\n0 0 0 00000000\n0 1027 0 00000000\n0 1028 0 00000000\n\
-                0\n0\n0\n0\n0 1027 1 42410000\n0 1028 1 00454443\n",
-            ..plain("odd", &odd, 0, b"ABCDE", FINE)
-        },
-        Case {
-            options: input,
-            input: b"\0",
-            head: b"cores 1\nbudget 1048576\nlimit 4294967280\nstack 16\nheap 256\nunits 15\n",
-            ..plain(
-                "jump by the next byte",
-                &byte_jump,
-                2,
-                b"",
-                b"traps 1\n0 11 00010020 1 1\nends 1\n0 trapped\nend\n",
-            )
-        },
-        Case {
-            options: both,
-            input: b"\0",
-            policy: bytes,
-            head: b"cores 1\nbudget 1048576\nlimit 4294967280\nstack 16\nheap 256\nunits 15\n",
-            ..plain(
-                "jump by the next byte, with tags of bytes",
-                &byte_jump,
-                0,
-                b"",
-                FINE,
-            )
-        },
-    ];
-    for case in cases {
-        try_case(&rt, alloc, &case)?;
-    }
-    Ok(())
 }
