@@ -5,6 +5,7 @@ use Rattle.outside.specs.Sinks.{Untouched, Wrote, Cut, Told}
 use Rattle.elf_image.specs.Layout.{Layout}
 use Rattle.elf_image.specs.ImageFault.{image_fault}
 use Rattle.elf_image.specs.declared.fault.ImageFault.{ImageFault}
+use Rattle.record_lane.specs.declared.reply.Trap.{Trap}
 use Rattle.tag_policy.specs.Rules.{PolicySeen}
 use Rattle.tag_policy.specs.Grammar.{policy_of}
 use Rattle.tag_policy.specs.declared.fault.PolicyKind.{PolicyKind}
@@ -12,6 +13,7 @@ use Rattle.tag_policy.specs.declared.fault.PolicyFault.TheVariants.{Bad}
 use Rattle.machine.specs.Setups.{Setup}
 use Rattle.machine.specs.Runs.{along, IsComplete}
 use Rattle.machine.specs.Outcomes.{output, status_class}
+use Rattle.machine.specs.TrapLaws.{IsHeldFrom}
 use Rattle.trap_report.specs.Text.{text}
 use Rattle.run_cli.specs.Seen.{FilesSeen, SinksSeen, OptionsSeen}
 use Rattle.run_cli.specs.Words.{Reads}
@@ -109,10 +111,11 @@ pub record WroteLine (ending : Ending) (old new : SinksSeen) : Type 0 where
 
 -- ---- what a run leaves
 
--- this order of the cores' units is complete, and it is the one in which they had their turns
+-- this order of the cores' units is complete, it is the one in which they had their turns, and a core is held from its trap on
 pub record IsOrderOf (s : Setup) (order : List ℕ) : Type 0 where
   pub complete : IsComplete s order
   pub turned : order ≡ rotation s
+  pub held : (core : ℕ) (trap : Trap) → ((along s order).cores core).tags.trap ≡ Some trap → IsHeldFrom s order core trap
 
 abbrev pub output_along : Setup → List ℕ → List ℕ
 output_along s order = output (along s order)

@@ -1,5 +1,10 @@
 //! Guests that run to their ends.
 use super::*;
+use elf_image::load;
+use inline_tracker::{Setup, Stepped, Tracker, status_of};
+use std::str::from_utf8;
+use syscall_drain::{End, Guest};
+use tag_policy::Policy;
 
 /// `hi` with its buffer at address 0 and with no `li a0, 0`: exits with the low byte of -14.
 const NO_BUFFER: [u32; 10] = [
@@ -282,4 +287,48 @@ fn a_write_crosses_pages_and_pages_join_permissions(rt: HostRuntime) -> Result<(
             b"traps 0\nends 1\n0 exit 1\nend\n",
         ),
     )
+}
+
+#[test]
+fn each_access_to_a_shared_word_has_the_next_number(rt: HostRuntime) -> Result<(), Fail> {
+    let alloc = rt.alloc();
+    let bytes = image(alloc, &COUNT)?;
+    let mut around = Surroundings::ample(alloc, &bytes)?;
+    let words = ["run", "--image", "guest.elf", "--cores", "8"];
+    assert_eq!(rt; around.command(alloc, &words)?, 0);
+    let mut next = 0;
+    for line in around.report.bytes().split(|byte| *byte == b'\n') {
+        let line = from_utf8(line)?;
+        let Some((_, access)) = line.split_once(" 1027 ") else {
+            continue;
+        };
+        assert_eq!(rt; access, format!(in alloc; "{next} {next:08x}")?.as_str());
+        next += 1;
+    }
+    assert_eq!(rt; next, 8000);
+    Ok(())
+}
+
+#[test]
+fn a_store_of_another_core_ends_a_reservation(rt: HostRuntime) -> Result<(), Fail> {
+    let alloc = rt.alloc();
+    // The order of the cores' units, and the ends of core 0 and core 1.
+    let cases: [([u8; 14], End, u8); 2] = [
+        ([0, 0, 0, 1, 1, 1, 0, 0, 0, 0, 0, 1, 1, 1], End::Exit(1), 1),
+        ([0, 0, 0, 0, 0, 0, 0, 0, 1, 1, 1, 1, 1, 1], End::Exit(0), 0),
+    ];
+    for (order, end, class) in cases {
+        let bytes = image(alloc, &LRSC)?;
+        let guest = Guest::new(load(alloc, &bytes, 2, 16, 256)?, Vec::new(alloc));
+        let setup = Setup::new(guest, Policy::standard(), 1_048_576, 4_294_967_280);
+        let mut tracker = Tracker::create(alloc, &setup)?;
+        for core in order {
+            assert_eq!(rt; tracker.step(core), Stepped::Went);
+        }
+        let finished = tracker.finish().ok().ok_or("is not finished")?;
+        assert_eq!(rt; finished.core(0).end, end);
+        assert_eq!(rt; finished.core(1).end, End::Exit(0));
+        assert_eq!(rt; status_of(&finished), class);
+    }
+    Ok(())
 }
