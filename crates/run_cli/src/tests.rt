@@ -180,15 +180,20 @@ impl Surroundings {
     }
 
     /// The status of a command.
-    fn command(&mut self, alloc: Global, words: &[&str]) -> Result<u8, AllocError> {
-        let words = strings(alloc, words)?;
-        Ok(command(
+    fn status_of(&mut self, alloc: Global, words: &[String]) -> u8 {
+        command(
             alloc,
-            &words,
+            words,
             &mut self.files,
             &mut self.out,
             &mut self.report,
-        ))
+        )
+    }
+
+    /// The status of a command of these words.
+    fn command(&mut self, alloc: Global, words: &[&str]) -> Result<u8, AllocError> {
+        let words = strings(alloc, words)?;
+        Ok(self.status_of(alloc, &words))
     }
 }
 
@@ -235,9 +240,11 @@ fn try_case(rt: &impl Abort, alloc: Global, case: &Case<'_>) -> Result<(), Fail>
     let mut around = Surroundings::ample(alloc, case.image)?;
     around.files.add(alloc, "input", case.input)?;
     around.files.add(alloc, "policy.toml", case.policy)?;
-    let mut words = Vec::from_slice(alloc, &RUN)?;
-    words.extend_from_slice(case.options)?;
-    assert_eq!(rt; around.command(alloc, &words)?, case.status, "{name}");
+    let mut words = strings(alloc, &RUN)?;
+    for option in case.options {
+        words.push(String::from_str(alloc, option)?)?;
+    }
+    assert_eq!(rt; around.status_of(alloc, &words), case.status, "{name}");
     assert_eq!(rt; around.out.bytes(), case.out, "{name}");
     let report = around.report.bytes();
     let mut head = Vec::from_slice(alloc, b"taint-report 1\n")?;

@@ -296,14 +296,14 @@ fn each_access_to_a_shared_word_has_the_next_number(rt: HostRuntime) -> Result<(
     let mut around = Surroundings::ample(alloc, &bytes)?;
     let words = ["run", "--image", "guest.elf", "--cores", "8"];
     assert_eq!(rt; around.command(alloc, &words)?, 0);
-    let mut next = 0;
+    let mut next: u32 = 0;
     for line in around.report.bytes().split(|byte| *byte == b'\n') {
         let line = from_utf8(line)?;
         let Some((_, access)) = line.split_once(" 1027 ") else {
             continue;
         };
         assert_eq!(rt; access, format!(in alloc; "{next} {next:08x}")?.as_str());
-        next += 1;
+        next = next.wrapping_add(1);
     }
     assert_eq!(rt; next, 8000);
     Ok(())
@@ -325,9 +325,11 @@ fn a_store_of_another_core_ends_a_reservation(rt: HostRuntime) -> Result<(), Fai
         for core in order {
             assert_eq!(rt; tracker.step(core), Stepped::Went);
         }
+        let first = tracker.outcome(0).ok_or("has not ended")?;
+        assert_eq!(rt; first.end, end);
+        let second = tracker.outcome(1).ok_or("has not ended")?;
+        assert_eq!(rt; second.end, End::Exit(0));
         let finished = tracker.finish().ok().ok_or("is not finished")?;
-        assert_eq!(rt; finished.core(0).end, end);
-        assert_eq!(rt; finished.core(1).end, End::Exit(0));
         assert_eq!(rt; status_of(&finished), class);
     }
     Ok(())

@@ -1,15 +1,20 @@
 //! Words, images and policies that are refused.
 use super::*;
 
+fn zeros(alloc: Global, count: usize) -> Result<Vec<u8>, AllocError> {
+    let mut bytes = Vec::new(alloc);
+    bytes.resize(count, 0)?;
+    Ok(bytes)
+}
+
 #[test]
 fn other_files_are_refused(rt: HostRuntime) -> Result<(), Fail> {
     let alloc = rt.alloc();
     let hi = image(alloc, &HI)?;
     let flags = echo_image(alloc, 1)?;
-    let mut long_image = Vec::new(alloc);
-    long_image.resize(33_554_433, 0)?;
-    let long_policy = &long_image[..65_537];
-    let long_input = &long_image[..16_777_217];
+    let long_image = zeros(alloc, 33_554_433)?;
+    let long_input = zeros(alloc, 16_777_217)?;
+    let long_policy = zeros(alloc, 65_537)?;
     let five =
         b"version = 1\n[[policy]]\nsource = true\n[[policy]]\nsource = true\n[[policy]]\nsource = true\n\
         [[policy]]\nsource = true\n[[policy]]\nsource = true\n";
@@ -24,16 +29,16 @@ fn other_files_are_refused(rt: HostRuntime) -> Result<(), Fail> {
         (
             &hi,
             five,
-            long_input,
+            &long_input,
             66,
             b"refused 66 policy 5 TooMany 0 2\n",
         ),
         (&hi, xor, b"", 66, b"refused 66 policy 6 BadValue 1 2\n"),
-        (&hi, long_policy, b"", 69, b"refused 69 long policy\n"),
+        (&hi, &long_policy, b"", 69, b"refused 69 long policy\n"),
         (
             &hi,
             b"version = 2\npolicy = []\n",
-            long_input,
+            &long_input,
             69,
             b"refused 69 long input\n",
         ),
