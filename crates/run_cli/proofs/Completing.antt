@@ -11,17 +11,17 @@ use Rattle.tag_policy.specs.declared.fault.PolicyFault.TheVariants.{Bad}
 use Rattle.machine.specs.Setups.{Setup}
 use Rattle.machine.specs.Runs.{along}
 use Rattle.machine.specs.Outcomes.{status_class}
-use Rattle.run_cli.specs.Seen.{FilesSeen, SinksSeen, OptionsSeen}
-use Rattle.run_cli.specs.Words.{Reads}
+use Rattle.run_cli.specs.Seen.{FilesSeen, SinksSeen, ImageAsked, OptionsSeen}
+use Rattle.run_cli.specs.Words.{Reads, AsksForImage}
 use Rattle.run_cli.specs.Work.{IsContents, IsImage, IsPolicy, IsInput, SaysPolicy, IsRunOf, layout_with, setup_of}
 use Rattle.run_cli.specs.Lines.{status_of}
-use Rattle.run_cli.specs.Endings.{Ended, HasRun, HasImageFault, HasPolicyFault, IsLong, CutOutput, CutReport}
-use Rattle.run_cli.specs.Completeness.{CanRun, IsToldOf, NothingRose, Completes, class_in_turn}
+use Rattle.run_cli.specs.Endings.{Ended, Caused, HasRun, HasMap, DeliveredMap, HasImageFault, HasPolicyFault, IsLong, CutOutput, CutReport}
+use Rattle.run_cli.specs.Completeness.{CanRun, CanMap, IsToldOf, NothingRose, Completes, CompletesMap, class_in_turn}
 use Rattle.run_cli.specs.declared.files.FileKind.{FileKind}
 use Rattle.run_cli.specs.declared.files.FileKind.TheVariants.{Image as ImageFile, Policy as PolicyFile, Input as InputFile}
 use Rattle.run_cli.specs.declared.ending.Ending.{Ending}
 use Rattle.run_cli.specs.declared.ending.Ending.TheVariants.{Class, Words, Image, Policy, Long, Memory, Read, Write}
-use Rattle.run_cli.proofs.ReadsOnce.{reads_once}
+use Rattle.run_cli.proofs.ReadsOnce.{reads_once, map_once, not_both_commands}
 
 -- ---- what is told is one thing alone
 
@@ -39,9 +39,9 @@ not_long : (held : Option (List ℕ)) (bytes : List ℕ) (most : ℕ) → IsSome
 not_long None bytes most some told within long = let clash : false ≡ true = some in cc
 not_long (Some contents) bytes most some told within long = let same = ap (λ (b : List ℕ). length b) told in omega (arith, same, within, long)
 
-image_once : (files : FilesSeen) (o : OptionsSeen) (one other : Layout) → IsSome (files.held o.image) → IsImage files o one → IsImage files o other → one ≡ other
-image_once files o one other some a b =
-    a.numbers ∙ ap (layout_with o) (told_once (files.held o.image) one.bytes other.bytes some a.contents.told b.contents.told) ∙ sym b.numbers
+image_once : (files : FilesSeen) (asked : ImageAsked) (one other : Layout) → IsSome (files.held asked.name) → IsImage files asked one → IsImage files asked other → one ≡ other
+image_once files asked one other some a b =
+    a.numbers ∙ ap (layout_with asked) (told_once (files.held asked.name) one.bytes other.bytes some a.contents.told b.contents.told) ∙ sym b.numbers
 
 policy_once : (files : FilesSeen) (name : Option (List ℕ)) (one other : PolicySeen) → IsToldOf files name → IsPolicy files name one → IsPolicy files name other → one ≡ other
 policy_once files None one other told a b = a ∙ sym b
@@ -62,31 +62,65 @@ run_once : (words : List (List ℕ)) (files : FilesSeen) (s other : Setup) → C
 run_once words files s other can run =
     let o : OptionsSeen = can.run_of.options in
     let same : run.options ≡ o = same_options words files s can run.options run.before.before.reads in
-    let image : IsImage files o other.program.layout = subst (λ (p : OptionsSeen). IsImage files p other.program.layout) same run.before.before.image_is in
+    let image : IsImage files o.image other.program.layout = subst (λ (p : OptionsSeen). IsImage files p.image other.program.layout) same run.before.before.image_is in
     let policy : IsPolicy files o.policy other.policy = subst (λ (p : OptionsSeen). IsPolicy files p.policy other.policy) same run.before.policy_is in
     let input : IsInput files o.input other.program.input = subst (λ (p : OptionsSeen). IsInput files p.input other.program.input) same run.input_is in
     let is : other ≡ setup_of o other.program.layout other.policy other.program.input = subst (λ (p : OptionsSeen). other ≡ setup_of p other.program.layout other.policy other.program.input) same run.setup_is in
     is
-    ∙ ap (λ (l : Layout). setup_of o l other.policy other.program.input) (image_once files o other.program.layout s.program.layout can.image image can.run_of.before.before.image_is)
+    ∙ ap (λ (l : Layout). setup_of o l other.policy other.program.input) (image_once files o.image other.program.layout s.program.layout can.image image can.run_of.before.before.image_is)
     ∙ ap (λ (p : PolicySeen). setup_of o s.program.layout p other.program.input) (policy_once files o.policy other.policy s.policy can.policy policy can.run_of.before.policy_is)
     ∙ ap (λ (i : List ℕ). setup_of o s.program.layout s.policy i) (input_once files o.input other.program.input s.program.input can.input input can.run_of.input_is)
     ∙ sym can.run_of.setup_is
 
--- ---- what can run is not refused
+-- ---- what is told is not refused
 
-no_image_fault : (words : List (List ℕ)) (old new : FilesSeen) (s : Setup) (fault : ImageFault) → CanRun words old s → HasImageFault words old new fault → ⊥
-no_image_fault words old new s fault can refused =
-    let o : OptionsSeen = can.run_of.options in
-    let same : refused.options ≡ o = same_options words old s can refused.options refused.reads in
-    let image = can.run_of.before.before.image_is in
-    let told : IsTold (old.held o.image) refused.bytes = subst (λ (p : OptionsSeen). IsTold (old.held p.image) refused.bytes) same refused.contents.told in
-    let bytes : refused.bytes ≡ s.program.layout.bytes = told_once (old.held o.image) refused.bytes s.program.layout.bytes can.image told image.contents.told in
-    let has : image_fault s.program.layout.bytes o.cores o.stack o.heap ≡ Some fault =
-    subst (λ (b : List ℕ). image_fault b o.cores o.stack o.heap ≡ Some fault) bytes
-    (subst (λ (p : OptionsSeen). image_fault refused.bytes p.cores p.stack p.heap ≡ Some fault) same refused.has) in
-    let sound : image_fault s.program.layout.bytes o.cores o.stack o.heap ≡ None =
-    sym (ap (λ (l : Layout). image_fault l.bytes l.cores l.stack l.heap) image.numbers) ∙ image.accepted.sound in
+-- the image that the words ask for is accepted, whichever command they are
+pub record HasAccepted (words : List (List ℕ)) (files : FilesSeen) (image : Layout) : Type 0 where
+  pub asked : ImageAsked
+  pub once : (other : ImageAsked) → AsksForImage words other → other ≡ asked
+  pub image_is : IsImage files asked image
+  pub told : IsSome (files.held asked.name)
+
+accepted_run : (words : List (List ℕ)) (files : FilesSeen) (s : Setup) → CanRun words files s → HasAccepted words files s.program.layout
+accepted_run words files s can = record {
+  asked = can.run_of.options.image;
+  once = λ other asks. elim asks [
+    | inl run ↦ sym run.image ∙ ap (λ (o : OptionsSeen). o.image) (same_options words files s can run.options run.reads)
+    | inr inspect ↦ absurd (not_both_commands words can.run_of.options other can.run_of.before.before.reads inspect)
+  ];
+  image_is = can.run_of.before.before.image_is;
+  told = can.image;
+}
+
+accepted_map : (words : List (List ℕ)) (files : FilesSeen) (image : Layout) → CanMap words files image → HasAccepted words files image
+accepted_map words files image can = record {
+  asked = can.asked;
+  once = λ other asks. elim asks [
+    | inl run ↦ absurd (not_both_commands words run.options can.asked run.reads can.reads)
+    | inr inspect ↦ map_once words other can.asked inspect can.reads
+  ];
+  image_is = can.image_is;
+  told = can.told;
+}
+
+no_image_fault : (words : List (List ℕ)) (old new : FilesSeen) (image : Layout) (fault : ImageFault) → HasAccepted words old image → HasImageFault words old new fault → ⊥
+no_image_fault words old new image fault can refused =
+    let asked : ImageAsked = can.asked in
+    let same : refused.asked ≡ asked = can.once refused.asked refused.asks in
+    let told : IsTold (old.held asked.name) refused.bytes = subst (λ (a : ImageAsked). IsTold (old.held a.name) refused.bytes) same refused.contents.told in
+    let bytes : refused.bytes ≡ image.bytes = told_once (old.held asked.name) refused.bytes image.bytes can.told told can.image_is.contents.told in
+    let has : image_fault image.bytes asked.cores asked.stack asked.heap ≡ Some fault =
+    subst (λ (b : List ℕ). image_fault b asked.cores asked.stack asked.heap ≡ Some fault) bytes
+    (subst (λ (a : ImageAsked). image_fault refused.bytes a.cores a.stack a.heap ≡ Some fault) same refused.has) in
+    let sound : image_fault image.bytes asked.cores asked.stack asked.heap ≡ None =
+    sym (ap (λ (l : Layout). image_fault l.bytes l.cores l.stack l.heap) can.image_is.numbers) ∙ can.image_is.accepted.sound in
     let clash : None ≡ Some fault = sym sound ∙ has in cc
+
+no_long_image : (words : List (List ℕ)) (old new : FilesSeen) (image : Layout) → HasAccepted words old image → IsLong words old new ImageFile → ⊥
+no_long_image words old new image can long =
+    let named : can.asked.name ≡ long.name = sym (ap (λ (a : ImageAsked). a.name) (can.once long.comes.asked long.comes.asks)) ∙ long.comes.named in
+    not_long (old.held can.asked.name) image.bytes 33554432 can.told can.image_is.contents.told can.image_is.contents.within
+    (subst (λ (name : List ℕ). IfSome (old.held name) (λ bytes. 33554432 < length bytes)) (sym named) long.told)
 
 no_policy_fault : (words : List (List ℕ)) (old new : FilesSeen) (s : Setup) (kind : PolicyKind) (table key : ℕ) → CanRun words old s → HasPolicyFault words old new kind table key → ⊥
 no_policy_fault words old new s kind table key can refused =
@@ -98,12 +132,7 @@ no_policy_fault words old new s kind table key can refused =
     no_both (policy_of refused.bytes) s.policy (Bad kind table key) (subst (λ (b : List ℕ). policy_of b ≡ Ok s.policy) text says.means) refused.has
 
 no_long_file : (words : List (List ℕ)) (old new : FilesSeen) (s : Setup) (kind : FileKind) → CanRun words old s → IsLong words old new kind → ⊥
-no_long_file words old new s ImageFile can long =
-    let o : OptionsSeen = can.run_of.options in
-    let named : o.image ≡ long.name = sym (ap (λ (p : OptionsSeen). p.image) (same_options words old s can long.comes.options long.comes.reads)) ∙ long.comes.named in
-    let contents = can.run_of.before.before.image_is.contents in
-    not_long (old.held o.image) s.program.layout.bytes 33554432 can.image contents.told contents.within
-    (subst (λ (name : List ℕ). IfSome (old.held name) (λ bytes. 33554432 < length bytes)) (sym named) long.told)
+no_long_file words old new s ImageFile can long = no_long_image words old new s.program.layout (accepted_run words old s can) long
 no_long_file words old new s PolicyFile can long =
     let same = same_options words old s can long.comes.options long.comes.before.reads in
     let named : can.run_of.options.policy ≡ Some long.name = sym (ap (λ (p : OptionsSeen). p.policy) same) ∙ long.comes.named in
@@ -126,20 +155,63 @@ class_is words old new sinks_old sinks_new s class can ran =
     ∙ ap (λ (order : List ℕ). status_class ran.setup (along ran.setup order)) ran.order_of.turned
     ∙ ap class_in_turn (run_once words old s ran.setup can ran.run_of)
 
+-- a run is no map
+no_map_of_run : (words : List (List ℕ)) (old new : FilesSeen) (sinks_old sinks_new : SinksSeen) (s : Setup) (ending : Ending) → CanRun words old s → HasMap words old new sinks_old sinks_new ending → ⊥
+no_map_of_run words old new sinks_old sinks_new s ending can map = not_both_commands words can.run_of.options map.asked can.run_of.before.before.reads map.reads
+
+no_run_of_map : (words : List (List ℕ)) (files : FilesSeen) (image : Layout) (o : OptionsSeen) → CanMap words files image → Reads words o → ⊥
+no_run_of_map words files image o can reads = not_both_commands words o can.asked reads can.reads
+
+after_refusal : (words : List (List ℕ)) (old new : FilesSeen) (sinks_old sinks_new : SinksSeen) (ending : Ending) (s : Setup) → Caused words old new ending → CanRun words old s → NothingRose old new sinks_old sinks_new → status_of ending ≡ 71
+after_refusal words old new sinks_old sinks_new (Class class) s caused can calm = absurd caused
+after_refusal words old new sinks_old sinks_new Words s caused can calm = absurd (caused.no_run can.run_of.options can.run_of.before.before.reads)
+after_refusal words old new sinks_old sinks_new (Image fault) s caused can calm = absurd (no_image_fault words old new s.program.layout fault (accepted_run words old s can) caused)
+after_refusal words old new sinks_old sinks_new (Policy kind table key) s caused can calm = absurd (no_policy_fault words old new s kind table key can caused)
+after_refusal words old new sinks_old sinks_new (Long kind) s caused can calm = absurd (no_long_file words old new s kind can caused)
+after_refusal words old new sinks_old sinks_new Memory s caused can calm = refl
+after_refusal words old new sinks_old sinks_new (Read kind) s caused can calm = absurd (calm.files caused.name caused.rose)
+after_refusal words old new sinks_old sinks_new Write s caused can calm = absurd caused
+
+after_run : (words : List (List ℕ)) (old new : FilesSeen) (sinks_old sinks_new : SinksSeen) (ending : Ending) (s : Setup) → HasRun words old new sinks_old sinks_new ending → CanRun words old s → NothingRose old new sinks_old sinks_new → status_of ending ≡ class_in_turn s
+after_run words old new sinks_old sinks_new (Class class) s ran can calm = class_is words old new sinks_old sinks_new s class can ran
+after_run words old new sinks_old sinks_new Write s ran can calm = absurd (not_cut ran.setup ran.order old new sinks_old sinks_new calm ran.delivered)
+after_run words old new sinks_old sinks_new Words s ran can calm = absurd ran.delivered
+after_run words old new sinks_old sinks_new (Image fault) s ran can calm = absurd ran.delivered
+after_run words old new sinks_old sinks_new (Policy kind table key) s ran can calm = absurd ran.delivered
+after_run words old new sinks_old sinks_new (Long kind) s ran can calm = absurd ran.delivered
+after_run words old new sinks_old sinks_new Memory s ran can calm = absurd ran.delivered
+after_run words old new sinks_old sinks_new (Read kind) s ran can calm = absurd ran.delivered
+
 pub completes : (words : List (List ℕ)) (old new : FilesSeen) (sinks_old sinks_new : SinksSeen) (ending : Ending) → Ended words old new sinks_old sinks_new ending → Completes words old new sinks_old sinks_new (status_of ending)
-completes words old new sinks_old sinks_new (Class class) (inl ran) s can calm = inl (class_is words old new sinks_old sinks_new s class can ran)
-completes words old new sinks_old sinks_new (Class class) (inr refused) s can calm = absurd refused.caused
-completes words old new sinks_old sinks_new Words (inl ran) s can calm = absurd ran.delivered
-completes words old new sinks_old sinks_new Words (inr refused) s can calm = absurd (refused.caused.unread can.run_of.options can.run_of.before.before.reads)
-completes words old new sinks_old sinks_new (Image fault) (inl ran) s can calm = absurd ran.delivered
-completes words old new sinks_old sinks_new (Image fault) (inr refused) s can calm = absurd (no_image_fault words old new s fault can refused.caused)
-completes words old new sinks_old sinks_new (Policy kind table key) (inl ran) s can calm = absurd ran.delivered
-completes words old new sinks_old sinks_new (Policy kind table key) (inr refused) s can calm = absurd (no_policy_fault words old new s kind table key can refused.caused)
-completes words old new sinks_old sinks_new (Long kind) (inl ran) s can calm = absurd ran.delivered
-completes words old new sinks_old sinks_new (Long kind) (inr refused) s can calm = absurd (no_long_file words old new s kind can refused.caused)
-completes words old new sinks_old sinks_new Memory (inl ran) s can calm = absurd ran.delivered
-completes words old new sinks_old sinks_new Memory (inr refused) s can calm = inr refl
-completes words old new sinks_old sinks_new (Read kind) (inl ran) s can calm = absurd ran.delivered
-completes words old new sinks_old sinks_new (Read kind) (inr refused) s can calm = absurd (calm.files refused.caused.name refused.caused.rose)
-completes words old new sinks_old sinks_new Write (inl ran) s can calm = absurd (not_cut ran.setup ran.order old new sinks_old sinks_new calm ran.delivered)
-completes words old new sinks_old sinks_new Write (inr refused) s can calm = absurd refused.caused
+completes words old new sinks_old sinks_new ending (inl ran) s can calm = inl (after_run words old new sinks_old sinks_new ending s ran can calm)
+completes words old new sinks_old sinks_new ending (inr (inl map)) s can calm = absurd (no_map_of_run words old new sinks_old sinks_new s ending can map)
+completes words old new sinks_old sinks_new ending (inr (inr refused)) s can calm = inr (after_refusal words old new sinks_old sinks_new ending s refused.caused can calm)
+
+-- ---- maps
+
+no_map_refusal : (words : List (List ℕ)) (old new : FilesSeen) (sinks_old sinks_new : SinksSeen) (ending : Ending) (image : Layout) → Caused words old new ending → CanMap words old image → NothingRose old new sinks_old sinks_new → status_of ending ≡ 71
+no_map_refusal words old new sinks_old sinks_new (Class class) image caused can calm = absurd caused
+no_map_refusal words old new sinks_old sinks_new Words image caused can calm = absurd (caused.no_map can.asked can.reads)
+no_map_refusal words old new sinks_old sinks_new (Image fault) image caused can calm = absurd (no_image_fault words old new image fault (accepted_map words old image can) caused)
+no_map_refusal words old new sinks_old sinks_new (Policy kind table key) image caused can calm = absurd (no_run_of_map words old image caused.options can caused.before.reads)
+no_map_refusal words old new sinks_old sinks_new (Long ImageFile) image caused can calm = absurd (no_long_image words old new image (accepted_map words old image can) caused)
+no_map_refusal words old new sinks_old sinks_new (Long PolicyFile) image caused can calm = absurd (no_run_of_map words old image caused.comes.options can caused.comes.before.reads)
+no_map_refusal words old new sinks_old sinks_new (Long InputFile) image caused can calm = absurd (no_run_of_map words old image caused.comes.options can caused.comes.before.before.reads)
+no_map_refusal words old new sinks_old sinks_new Memory image caused can calm = refl
+no_map_refusal words old new sinks_old sinks_new (Read kind) image caused can calm = absurd (calm.files caused.name caused.rose)
+no_map_refusal words old new sinks_old sinks_new Write image caused can calm = absurd caused
+
+after_map : (old new : FilesSeen) (sinks_old sinks_new : SinksSeen) (ending : Ending) (image : Layout) → DeliveredMap image sinks_old sinks_new ending → NothingRose old new sinks_old sinks_new → status_of ending ≡ 0
+after_map old new sinks_old sinks_new (Class class) image delivered calm = delivered.0
+after_map old new sinks_old sinks_new Write image delivered calm = absurd (calm.out delivered.0.rose)
+after_map old new sinks_old sinks_new Words image delivered calm = absurd delivered
+after_map old new sinks_old sinks_new (Image fault) image delivered calm = absurd delivered
+after_map old new sinks_old sinks_new (Policy kind table key) image delivered calm = absurd delivered
+after_map old new sinks_old sinks_new (Long kind) image delivered calm = absurd delivered
+after_map old new sinks_old sinks_new Memory image delivered calm = absurd delivered
+after_map old new sinks_old sinks_new (Read kind) image delivered calm = absurd delivered
+
+pub completes_map : (words : List (List ℕ)) (old new : FilesSeen) (sinks_old sinks_new : SinksSeen) (ending : Ending) → Ended words old new sinks_old sinks_new ending → CompletesMap words old new sinks_old sinks_new (status_of ending)
+completes_map words old new sinks_old sinks_new ending (inl ran) image can calm = absurd (no_run_of_map words old image ran.run_of.options can ran.run_of.before.before.reads)
+completes_map words old new sinks_old sinks_new ending (inr (inl map)) image can calm = inl (after_map old new sinks_old sinks_new ending map.image map.delivered calm)
+completes_map words old new sinks_old sinks_new ending (inr (inr refused)) image can calm = inr (no_map_refusal words old new sinks_old sinks_new ending image refused.caused can calm)

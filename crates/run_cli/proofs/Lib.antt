@@ -4,3 +4,4 @@ pub mod Reading
 pub mod ReadsOnce
 pub mod Delivering
 pub mod Completing
+pub mod MapLemmas

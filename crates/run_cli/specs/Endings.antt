@@ -15,10 +15,11 @@ use Rattle.machine.specs.Runs.{along, IsComplete}
 use Rattle.machine.specs.Outcomes.{output, status_class}
 use Rattle.machine.specs.TrapLaws.{IsHeldFrom}
 use Rattle.trap_report.specs.Text.{text}
-use Rattle.run_cli.specs.Seen.{FilesSeen, SinksSeen, OptionsSeen}
-use Rattle.run_cli.specs.Words.{Reads}
-use Rattle.run_cli.specs.Work.{most_bytes, IsContents, HasImage, HasPolicy, IsRunOf}
+use Rattle.run_cli.specs.Seen.{FilesSeen, SinksSeen, ImageAsked, OptionsSeen}
+use Rattle.run_cli.specs.Words.{Reads, ReadsMap, AsksForImage}
+use Rattle.run_cli.specs.Work.{most_bytes, IsContents, HasImage, HasPolicy, IsRunOf, IsImage}
 use Rattle.run_cli.specs.Rotation.{rotation}
+use Rattle.run_cli.specs.MapText.{map_text}
 use Rattle.run_cli.specs.Lines.{line_of}
 use Rattle.run_cli.specs.declared.files.FileKind.{FileKind}
 use Rattle.run_cli.specs.declared.files.FileKind.TheVariants.{Image as ImageFile, Policy as PolicyFile, Input as InputFile}
@@ -31,18 +32,19 @@ IsCalm old new = (name : List ℕ) → new.faults name ≡ old.faults name
 
 -- ---- when each refusal comes
 
--- the words are not those of a run
+-- the words are those of no command
 pub record HasNoWords (words : List (List ℕ)) (old new : FilesSeen) : Type 0 where
-  pub unread : (o : OptionsSeen) → Reads words o → ⊥
+  pub no_run : (o : OptionsSeen) → Reads words o → ⊥
+  pub no_map : (asked : ImageAsked) → ReadsMap words asked → ⊥
   pub calm : IsCalm old new
 
 -- the image has this fault
 pub record HasImageFault (words : List (List ℕ)) (old new : FilesSeen) (fault : ImageFault) : Type 0 where
-  pub options : OptionsSeen
-  pub reads : Reads words options
+  pub asked : ImageAsked
+  pub asks : AsksForImage words asked
   pub bytes : List ℕ
-  pub contents : IsContents old ImageFile options.image bytes
-  pub has : image_fault bytes options.cores options.stack options.heap ≡ Some fault
+  pub contents : IsContents old ImageFile asked.name bytes
+  pub has : image_fault bytes asked.cores asked.stack asked.heap ≡ Some fault
   pub calm : IsCalm old new
 
 -- the image is accepted, and the policy's text has this fault
@@ -59,9 +61,9 @@ pub record HasPolicyFault (words : List (List ℕ)) (old new : FilesSeen) (kind 
 
 -- the file that is read next has this name
 pub record ComesToImage (words : List (List ℕ)) (name : List ℕ) : Type 0 where
-  pub options : OptionsSeen
-  pub reads : Reads words options
-  pub named : options.image ≡ name
+  pub asked : ImageAsked
+  pub asks : AsksForImage words asked
+  pub named : asked.name ≡ name
 
 pub record ComesToPolicy (words : List (List ℕ)) (files : FilesSeen) (name : List ℕ) : Type 0 where
   pub options : OptionsSeen
@@ -139,6 +141,14 @@ Delivered s order old new (Class class) = (class ≡ status_class s (along s ord
 Delivered s order old new Write = CutOutput s order old new ⊎ CutReport s order old new
 Delivered s order old new _ = ⊥
 
+-- ---- what a map leaves
+
+-- the map was written, or a write of it was cut
+abbrev pub DeliveredMap : Layout → SinksSeen → SinksSeen → Ending → Type 0
+DeliveredMap image old new (Class class) = (class ≡ 0) × Wrote (map_text image) old.out new.out × Untouched old.report new.report
+DeliveredMap image old new Write = Cut (map_text image) old.out new.out × Untouched old.report new.report
+DeliveredMap image old new _ = ⊥
+
 -- ---- the endings
 
 -- the words and the files are those of a run, which came to its end and was delivered
@@ -150,10 +160,21 @@ pub record HasRun (words : List (List ℕ)) (old new : FilesSeen) (sinks_old sin
   pub calm : IsCalm old new
   pub delivered : Delivered setup order sinks_old sinks_new ending
 
+-- the words are those of a map of this image, and it was delivered
+pub record HasMap (words : List (List ℕ)) (old new : FilesSeen) (sinks_old sinks_new : SinksSeen) (ending : Ending) : Type 0 where
+  pub asked : ImageAsked
+  pub reads : ReadsMap words asked
+  pub image : Layout
+  pub image_is : IsImage old asked image
+  pub calm : IsCalm old new
+  pub delivered : DeliveredMap image sinks_old sinks_new ending
+
 pub record WasRefused (words : List (List ℕ)) (old new : FilesSeen) (sinks_old sinks_new : SinksSeen) (ending : Ending) : Type 0 where
   pub caused : Caused words old new ending
   pub told : WroteLine ending sinks_old sinks_new
 
 abbrev pub Ended : List (List ℕ) → FilesSeen → FilesSeen → SinksSeen → SinksSeen → Ending → Type 0
 Ended words old new sinks_old sinks_new ending =
-    HasRun words old new sinks_old sinks_new ending ⊎ WasRefused words old new sinks_old sinks_new ending
+    HasRun words old new sinks_old sinks_new ending
+    ⊎ HasMap words old new sinks_old sinks_new ending
+    ⊎ WasRefused words old new sinks_old sinks_new ending

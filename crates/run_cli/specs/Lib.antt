@@ -3,8 +3,10 @@ pub mod Words
 pub mod Work
 pub mod Rotation
 pub mod Lines
+pub mod MapText
 pub mod Endings
 pub mod Completeness
 pub mod Laws
+pub mod Commands
 pub mod Forms
 pub mod Turning

@@ -1,4 +1,4 @@
--- What a run does before its first unit, in order: the words, the image, the policy, the input (this project's own).
+-- What a command does before a run's first unit, in order: the words, the image, the policy, the input (this project's own).
 use Rattle.std.specs.Prelude.{◌≡◌, ℕ, ◌≤◌, List, [], length, Option, None, Some, Ok}
 use Rattle.outside.specs.Files.{IsTold}
 use Rattle.elf_image.specs.Layout.{Layout, layout_of}
@@ -7,7 +7,7 @@ use Rattle.tag_policy.specs.Rules.{PolicySeen}
 use Rattle.tag_policy.specs.Policies.{standard_policy}
 use Rattle.tag_policy.specs.Grammar.{policy_of}
 use Rattle.machine.specs.Setups.{Setup}
-use Rattle.run_cli.specs.Seen.{FilesSeen, OptionsSeen}
+use Rattle.run_cli.specs.Seen.{FilesSeen, ImageAsked, OptionsSeen}
 use Rattle.run_cli.specs.Words.{Reads}
 use Rattle.run_cli.specs.declared.files.FileKind.{FileKind}
 use Rattle.run_cli.specs.declared.files.FileKind.TheVariants.{Image, Policy, Input}
@@ -23,13 +23,13 @@ pub record IsContents (files : FilesSeen) (kind : FileKind) (name bytes : List �
   pub told : IsTold (files.held name) bytes
   pub within : length bytes ≤ most_bytes kind
 
-abbrev pub layout_with : OptionsSeen → List ℕ → Layout
-layout_with o bytes = layout_of bytes o.cores o.stack o.heap
+abbrev pub layout_with : ImageAsked → List ℕ → Layout
+layout_with asked bytes = layout_of bytes asked.cores asked.stack asked.heap
 
--- the image of the options is this one, and it is accepted
-pub record IsImage (files : FilesSeen) (o : OptionsSeen) (image : Layout) : Type 0 where
-  pub contents : IsContents files Image o.image image.bytes
-  pub numbers : image ≡ layout_with o image.bytes
+-- the image that is asked for is this one, and it is accepted
+pub record IsImage (files : FilesSeen) (asked : ImageAsked) (image : Layout) : Type 0 where
+  pub contents : IsContents files Image asked.name image.bytes
+  pub numbers : image ≡ layout_with asked image.bytes
   pub accepted : IsAccepted image
 
 -- the policy of a file is this one
@@ -54,7 +54,7 @@ setup_of o image policy input = record { program = record { layout = image; inpu
 -- the words are those of a run, and its image is read
 pub record HasImage (words : List (List ℕ)) (files : FilesSeen) (o : OptionsSeen) (image : Layout) : Type 0 where
   pub reads : Reads words o
-  pub image_is : IsImage files o image
+  pub image_is : IsImage files o.image image
 
 -- so is its policy
 pub record HasPolicy (words : List (List ℕ)) (files : FilesSeen) (o : OptionsSeen) (image : Layout) (policy : PolicySeen) : Type 0 where

@@ -1,4 +1,4 @@
-//! Runs a guest program, writes its output, and then a report of its run.
+//! Runs a guest program, writes its output, and then a report of its run; or shows the memory map of one.
 #![tactic(auto)]
 
 mod deliver;
@@ -6,6 +6,7 @@ mod dispatch;
 mod ending;
 mod files;
 pub mod laws;
+mod map_text;
 mod options;
 mod prepare;
 mod refusal;

@@ -1,13 +1,13 @@
-//! From the words of a command line to a finished run.
-ghost use Rattle.std.specs.Prelude.{◌≡◌, ◌≤◌, ℕ, List, length, map, string_bytes, OnOk, IfOk, IfErr};
+//! From the options of a run to a finished run.
+ghost use Rattle.std.specs.Prelude.{◌≡◌, ◌≤◌, ℕ, List, length, OnOk, IfOk, IfErr};
 ghost use Rattle.elf_image.specs.Layout.{Layout};
 ghost use Rattle.elf_image.specs.ImageFault.{IsAccepted};
 ghost use Rattle.tag_policy.specs.Policies.{policy_in, standard_policy};
 ghost use Rattle.tag_policy.specs.Rules.{PolicySeen};
 ghost use Rattle.machine.specs.Setups.{IsSetup};
 ghost use Rattle.machine.specs.FinishedRuns.{IsFinishedRun};
-ghost use Rattle.run_cli.specs.Seen.{files_seen, options_in};
-ghost use Rattle.run_cli.specs.Words.{Reads};
+ghost use Rattle.run_cli.specs.Seen.{files_seen, image_in, options_in};
+ghost use Rattle.run_cli.specs.Words.{Reads, AsksForImage};
 ghost use Rattle.run_cli.specs.Work.{layout_with, setup_of, IsImage, IsPolicy, IsInput, HasImage, HasPolicy, IsRunOf};
 ghost use Rattle.run_cli.specs.Rotation.{rotation};
 ghost use Rattle.run_cli.specs.Endings.{IsCalm, Caused, IsOrderOf};
@@ -15,9 +15,8 @@ ghost use Rattle.run_cli.specs.Forms.{image_ending, policy_ending};
 
 use crate::ending::Ending;
 use crate::files::{FileKind, read_file};
-use crate::options::RunOptions;
+use crate::options::{ImageOptions, RunOptions};
 use crate::rotation::run_in_turn;
-use crate::words::run_options;
 use elf_image::{Image, ImageFault, load};
 use inline_tracker::{Finished, Setup};
 use outside::Files;
@@ -52,18 +51,18 @@ fn policy_ending(fault: PolicyFault) -> Ending
     }
 }
 
-/// The image of the options.
-fn read_image<F: Files>(
+/// The image that a command asks for.
+pub fn read_image<F: Files>(
     alloc: Global,
-    options: &RunOptions<'_>,
+    options: &ImageOptions<'_>,
     files: &mut F,
 ) -> Result<Image, Ending>
-    ensures read { IfOk result (IsImage (files_seen (F.held files.old) (F.faults files.old)) (options_in options.now)) }
+    ensures read { IfOk result (IsImage (files_seen (F.held files.old) (F.faults files.old)) (image_in options.now)) }
     ensures same { OnOk result (files_seen (F.held files.new) (F.faults files.new) ≡ files_seen (F.held files.old) (F.faults files.old)) }
-    ensures refused { (words : List (List ℕ)) → Reads words (options_in options.now)
+    ensures refused { (words : List (List ℕ)) → AsksForImage words (image_in options.now)
         → IfErr result (Caused words (files_seen (F.held files.old) (F.faults files.old)) (files_seen (F.held files.new) (F.faults files.new))) }
 {
-    let bytes = read_file(alloc, FileKind::Image, options.image, files)?;
+    let bytes = read_file(alloc, FileKind::Image, options.name, files)?;
     match load(
         alloc,
         bytes.as_slice(),
@@ -117,7 +116,7 @@ fn input_of<F: Files>(
 
 /// The setup of the options with what was read.
 fn setup_with(options: &RunOptions<'_>, image: Image, policy: Policy, input: Vec<u8>) -> Setup
-    requires numbers { image ≡ layout_with (options_in options.now) image.bytes }
+    requires numbers { image ≡ layout_with (image_in options.now.image) image.bytes }
     requires accepted { IsAccepted image }
     requires short { length input.items ≤ 16777216 }
     ensures { result ≡ setup_of (options_in options.now) image (policy_in policy) input.items }
@@ -126,28 +125,38 @@ fn setup_with(options: &RunOptions<'_>, image: Image, policy: Policy, input: Vec
     Setup::new(guest, policy, options.budget, options.limit)
 }
 
-/// The setup that the words and the files say.
-fn read_setup<F: Files>(alloc: Global, words: &[String], files: &mut F) -> Result<Setup, Ending>
-    ensures read { IfOk result (IsRunOf (map string_bytes words.now) (files_seen (F.held files.old) (F.faults files.old))) }
+/// The setup that the options and the files say.
+fn read_setup<F: Files>(
+    alloc: Global,
+    options: &RunOptions<'_>,
+    files: &mut F,
+) -> Result<Setup, Ending>
+    ensures read { (words : List (List ℕ)) → Reads words (options_in options.now) → IfOk result (IsRunOf words (files_seen (F.held files.old) (F.faults files.old))) }
     ensures same { OnOk result (files_seen (F.held files.new) (F.faults files.new) ≡ files_seen (F.held files.old) (F.faults files.old)) }
-    ensures refused { IfErr result (Caused (map string_bytes words.now) (files_seen (F.held files.old) (F.faults files.old)) (files_seen (F.held files.new) (F.faults files.new))) }
+    ensures refused { (words : List (List ℕ)) → Reads words (options_in options.now)
+        → IfErr result (Caused words (files_seen (F.held files.old) (F.faults files.old)) (files_seen (F.held files.new) (F.faults files.new))) }
 {
-    let options = run_options(alloc, words)?;
-    let image = read_image(alloc, &options, files)?;
-    let policy = policy_of(alloc, &options, files)?;
-    let input = input_of(alloc, &options, files)?;
-    Ok(setup_with(&options, image, policy, input))
+    let image = read_image(alloc, &options.image, files)?;
+    let policy = policy_of(alloc, options, files)?;
+    let input = input_of(alloc, options, files)?;
+    Ok(setup_with(options, image, policy, input))
 }
 
-/// The run that the words say, to its end.
-pub fn prepare<F: Files>(alloc: Global, words: &[String], files: &mut F) -> Result<Run, Ending>
-    ensures run_of { IfOk result (λ run. IsRunOf (map string_bytes words.now) (files_seen (F.held files.old) (F.faults files.old)) run.setup) }
+/// The run that the options say, to its end.
+pub fn prepare<F: Files>(
+    alloc: Global,
+    options: &RunOptions<'_>,
+    files: &mut F,
+) -> Result<Run, Ending>
+    ensures run_of { (words : List (List ℕ)) → Reads words (options_in options.now)
+        → IfOk result (λ run. IsRunOf words (files_seen (F.held files.old) (F.faults files.old)) run.setup) }
     ensures finished { IfOk result (λ run. IsFinishedRun run.setup run.finished.run) }
     ensures order { IfOk result (λ run. IsOrderOf run.setup run.finished.run.order) }
     ensures calm { OnOk result (IsCalm (files_seen (F.held files.old) (F.faults files.old)) (files_seen (F.held files.new) (F.faults files.new))) }
-    ensures refused { IfErr result (Caused (map string_bytes words.now) (files_seen (F.held files.old) (F.faults files.old)) (files_seen (F.held files.new) (F.faults files.new))) }
+    ensures refused { (words : List (List ℕ)) → Reads words (options_in options.now)
+        → IfErr result (Caused words (files_seen (F.held files.old) (F.faults files.old)) (files_seen (F.held files.new) (F.faults files.new))) }
 {
-    let setup = read_setup(alloc, words, files)?;
+    let setup = read_setup(alloc, options, files)?;
     match run_in_turn(alloc, &setup) {
         Ok(finished) => Ok(Run { setup, finished }),
         Err(NoMemory) => Err(Ending::Memory),

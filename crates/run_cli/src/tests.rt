@@ -8,6 +8,7 @@ use std::test::Fail;
 mod examples;
 mod faults;
 mod guests;
+mod maps;
 mod memory;
 mod policies;
 mod refusals;

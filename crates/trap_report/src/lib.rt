@@ -19,6 +19,7 @@ mod sections;
 mod spelling;
 mod writer;
 
+pub use block::Block;
 pub use difference::first_difference;
 pub use reader::read_report;
 pub use report_line::{HeaderLine, ReportLine, Section};

@@ -1,3 +1,4 @@
+use Rattle.std.proofs.lemmas.Result.{err_from_is_err_and}
 use Rattle.machine.proofs.TrapRuns.{traps_hold_on}
 use Rattle.run_cli.proofs.prepare.prepare.Goals as goal
 
@@ -7,3 +8,8 @@ returns-in-Ok-clause-order g c = record {
   turned = c.in-Ok.ensures.order;
   held = traps_hold_on _ _ c.in-Ok.ensures.run.complete.playable;
 }
+
+pub returns-in_err-setup-clause-refused : goal.returns-in_err-setup-clause-refused
+returns-in_err-setup-clause-refused g c words reads =
+    let p = err_from_is_err_and c.from_residual.result c.from_residual.ensures.1 in
+    rw (p.1, p.2) (c.in_err-setup.ensures.refused words reads)
