@@ -1,0 +1,5 @@
+pub mod Standing
+pub mod Sounding
+pub mod Moving
+pub mod Leading
+pub mod Growing

@@ -1,0 +1,5 @@
+pub mod Seen
+pub mod Standing
+pub mod Leaving
+pub mod Moves
+pub mod Turns
