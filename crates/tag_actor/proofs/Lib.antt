@@ -3,3 +3,4 @@ pub mod Sounding
 pub mod Moving
 pub mod Leading
 pub mod Growing
+pub mod Machine

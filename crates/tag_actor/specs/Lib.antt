@@ -3,3 +3,4 @@ pub mod Standing
 pub mod Leaving
 pub mod Moves
 pub mod Turns
+pub mod Machine

@@ -4,6 +4,7 @@
 
 mod actor;
 mod answer;
+pub mod laws;
 mod moves;
 mod turning;
 

@@ -1,8 +1,9 @@
 //! A turn of a tag actor.
 
-ghost use Rattle.std.specs.Prelude.{◌≡◌, ◌↔◌, ◌<◌, false, true, ◌||◌, if◌then◌else◌, IsSome};
+ghost use Rattle.std.specs.Prelude.{◌≡◌, ◌↔◌, ℕ, ◌<◌, false, true, ◌||◌, if◌then◌else◌, IsSome};
 ghost use Rattle.tag_actor.specs.declared.answer.TagTurn.TheVariants.{Went, Ended};
 ghost use Rattle.tag_actor.specs.Moves.{SettledAs};
+ghost use Rattle.tag_actor.specs.Machine.{IsTurnOfTheMachine};
 ghost use Rattle.tag_actor.specs.Turns.{AreOf, IsSameActor, AdvancedAs, IsTurn, HasGrown};
 
 use crate::actor::TagActor;
@@ -94,6 +95,7 @@ impl TagActor {
         ensures same { IsSameActor self.old self.new }
         ensures ended { (result ≡ Ended) ↔ (self.new.ended ≡ true) }
         ensures went { (result ≡ Went) ↔ ((self.new.ended ≡ false) × HasGrown self.old self.new) }
+        ensures machine { (core : ℕ) → IsTurnOfTheMachine core self.old self.new }
         ensures rest { self.old.ended ≡ true → self.new ≡ self.old }
     {
         if self.ended {
