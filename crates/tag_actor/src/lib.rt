@@ -10,3 +10,6 @@ mod turning;
 
 pub use actor::{TagActor, TagParts};
 pub use answer::TagTurn;
+
+#[cfg(test)]
+mod tests;
