@@ -1,1 +1,2 @@
+pub mod WalkedLists
 pub mod Folded
