@@ -1,5 +1,5 @@
 -- What a contract sees of a hart actor, and of its parts at the end (this project's own).
-use Rattle.std.specs.Prelude.{◌≡◌, ℕ, ◌+◌, Option, Some, None, List, [], ◌∷◌, ◌++◌, take, drop, length}
+use Rattle.std.specs.Prelude.{◌≡◌, ℕ, ◌+◌, Option, Some, None, List, [], ◌∷◌, ◌++◌, take, drop, length, option_to_list}
 use Rattle.bounded_list.specs.Bounded.{Bounded}
 use Rattle.record_lane.specs.declared.record.Record.{Record}
 use Rattle.record_lane.specs.declared.record.Record.TheVariants.{End as EndRecord}
@@ -61,6 +61,14 @@ cut_length (piece ∷ rest) = piece.1 + cut_length rest
 pub record HasEnded (h : Hart) : Type 0 where
   pub closed : h.stage ≡ Closed
   pub sent : h.unsent ≡ None
+
+-- its lists so far are those of a local run; what it has sent, and its unsent record behind that, are the records of its units and the one ahead of them
+pub record GoesAlong (h : Hart) : Type 0 where
+  pub answers : List Answer
+  pub records : List Record
+  pub has_run : HasRun h.program h.budget h.core h.pass.terms h.local h.log.items h.pass.changes records (taken_by h.taker) h.notes.items (cut h.pieces.items h.output.items) answers
+  pub sent_is : sent_by h.sender ++ option_to_list h.unsent ≡ records ++ ahead h.stage
+  pub whole : cut_length h.pieces.items ≡ length h.output.items
 
 -- what an ended actor leaves: the lists of its whole local run, whose records and one last it has sent
 pub record HartLeaves (h : Hart) (parts : HartParts) : Type 0 where

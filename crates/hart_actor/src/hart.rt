@@ -10,7 +10,7 @@ ghost use Rattle.syscall_drain.specs.Seen.{IsNextUnit};
 ghost use Rattle.syscall_drain.specs.Sound.{IsSound};
 ghost use Rattle.syscall_drain.specs.declared.ask.CoreAsk.TheVariants.{Quiet as AsksNothing, Touch as Touches, Meet as Meets};
 ghost use Rattle.hart_actor.specs.declared.stage.Stage.TheVariants.{Going, Meeting, Closed};
-ghost use Rattle.hart_actor.specs.Harts.{HasEnded, HartLeaves};
+ghost use Rattle.hart_actor.specs.Harts.{HasEnded, GoesAlong, HartLeaves};
 ghost use Rattle.hart_actor.specs.Objects.{AreOf, IsSameHart, IsRingFor};
 ghost use Rattle.hart_actor.specs.Moves.{HartMove, Leads, side_of};
 ghost use Rattle.hart_actor.specs.Turns.{HasMoved, HasStepped, HasTurned};
@@ -347,7 +347,8 @@ impl HartActor {
 
     /// How many units are done; a meeting counts once it is answered.
     pub fn done(&self) -> u32
-        ensures { result ≡ self.now.local.units }
+        ensures units { result ≡ self.now.local.units }
+        ensures run { GoesAlong self.now }
     {
         self.core.units()
     }
