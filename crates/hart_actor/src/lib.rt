@@ -6,6 +6,8 @@ mod note;
 mod output;
 mod parts;
 mod stage;
+#[cfg(test)]
+mod tests;
 mod turn;
 
 pub use hart::HartActor;
