@@ -20,12 +20,12 @@ use crate::output::put_out;
 use crate::parts::HartParts;
 use crate::stage::Stage;
 use crate::turn::{HartTurn, Step, went_or};
+use crate::ward::Ward;
 use order_core::{Access, BoundedList, Bytes, CoreLog, Entry, NoMemory, Pieces};
 use record_lane::{Got, Lane, Notes, Record, Reply, Ring, RingSender, Sent, Taker};
 use rv_execute::Op;
 use std::alloc::Global;
 use std::marker::Model;
-use std::snapshot::Snapshot;
 use std::sync::Wait;
 use syscall_drain::{Answer, CoreAsk, CoreState, Guest, NextUnit};
 use word_stores::{Pass, SharedMemory};
@@ -44,7 +44,7 @@ pub struct HartActor {
     pass: Pass,
     sender: RingSender<Record>,
     taker: Taker<Reply>,
-    guest: Snapshot<Guest>,
+    guest: Ward,
 }
 
 impl Model for HartActor {
@@ -55,7 +55,7 @@ impl Model for HartActor {
     ghost Value = { Hart };
 
     ghost view = { λ h. record {
-      program = h.guest.value;
+      program = h.guest.program;
       budget = budget_of h.core;
       core = core_of h.core;
       local = local_of h.core;
@@ -71,7 +71,7 @@ impl Model for HartActor {
     } };
 
     ghost invariant = { λ h. IsHart (record {
-      program = h.guest.value;
+      program = h.guest.program;
       budget = budget_of h.core;
       core = core_of h.core;
       local = local_of h.core;
@@ -122,7 +122,7 @@ impl HartActor {
             pass,
             sender,
             taker,
-            guest: Snapshot::of(guest),
+            guest: Ward::of(guest),
         })
     }
 

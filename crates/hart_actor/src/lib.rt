@@ -9,6 +9,7 @@ mod stage;
 #[cfg(test)]
 mod tests;
 mod turn;
+mod ward;
 
 pub use hart::HartActor;
 pub use parts::HartParts;
