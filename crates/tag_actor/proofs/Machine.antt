@@ -6,17 +6,16 @@ use Rattle.record_lane.specs.declared.record.Record.TheVariants.{Quiet, Blank, T
 use Rattle.record_lane.specs.declared.reply.Reply.{Reply}
 use Rattle.record_lane.specs.declared.ring.Ring.{Ring}
 use Rattle.record_lane.specs.declared.lane.Lane.{Lane}
-use Rattle.order_core.specs.declared.shape.Move.{Move}
 use Rattle.order_core.specs.declared.shape.Move.TheVariants.{Serve, Reply as Replies}
 use Rattle.order_core.specs.declared.shape.Queued.{Queued}
 use Rattle.order_core.specs.declared.shape.CoreQueue.{CoreQueue}
-use Rattle.order_core.specs.Protocol.{Protocol, core_at, can_act, act, no_core, shape_is_next, is_meet, without_first, replied}
+use Rattle.order_core.specs.Protocol.{Protocol, core_at, act, no_core, shape_is_next, is_meet, without_first, replied}
 use Rattle.tag_actor.specs.Seen.{TagActorSeen}
-use Rattle.tag_actor.specs.Moves.{HasTaken, HasConsumed, TagMove, Takes, Consumes, IsMove, Leads}
+use Rattle.tag_actor.specs.Moves.{HasTaken, TagMove, Takes, Consumes, Leads}
 use Rattle.tag_actor.specs.Turns.{StopsFor, IsTurn}
 use Rattle.tag_actor.specs.declared.answer.TagTurn.{TagTurn}
 use Rattle.tag_actor.specs.declared.answer.TagTurn.TheVariants.{Went, Empty, NotYet, ReplyFull, Ended}
-use Rattle.tag_actor.specs.Machine.{queued_of, machine_move, HasLane, IsItsTurn, IsShown, IsMachineStep, HasFollowed, MovesOfTheMachine, LeadsInMachine, IsTurnOfTheMachine}
+use Rattle.tag_actor.specs.Machine.{queued_of, machine_move, HasLane, IsItsTurn, HasFollowed, MovesOfTheMachine, LeadsInMachine, IsTurnOfTheMachine}
 
 -- a record that comes into the hand
 takes_nothing : (a b : TagActorSeen) (item : Record) (s : Protocol) (core : ℕ) (queue left : List Queued)

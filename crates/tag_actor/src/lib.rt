@@ -6,6 +6,7 @@ mod actor;
 mod answer;
 pub mod laws;
 mod moves;
+mod stage;
 mod turning;
 
 pub use actor::{TagActor, TagParts};

@@ -9,6 +9,7 @@ ghost use Rattle.tag_actor.specs.Turns.{AreOf, IsSameActor};
 
 use crate::actor::TagActor;
 use crate::answer::{TagTurn, Took};
+use crate::stage::Stage;
 use record_lane::{Got, Lane, Record, Reply, Ring, Sent};
 use std::sync::Wait;
 use tag_registers::TagAsk;
@@ -31,20 +32,15 @@ fn is_last(item: &Record) -> bool
 
 impl TagActor {
     /// Takes the next record of the ring. One that has to wait comes into the hand; any other is consumed.
-    pub(crate) fn take(
-        &mut self,
-        memory: &TagMemory,
-        items: &Ring<Record>,
-        replies: &Lane<Reply>,
-    ) -> Took
-        requires objects { AreOf memory.now items.now replies.now self.old }
+    pub(crate) fn take(&mut self, stage: &Stage) -> Took
+        requires objects { AreOf stage.now.memory.now stage.now.items.now stage.now.replies.now self.old }
         requires going { self.old.ended ≡ false }
         requires free { self.old.hand ≡ None }
-        ensures took { TookAs items.now self.old self.new result }
-        ensures objects { AreOf memory.now items.now replies.now self.new }
+        ensures took { TookAs stage.now.items.now self.old self.new result }
+        ensures objects { AreOf stage.now.memory.now stage.now.items.now stage.now.replies.now self.new }
         ensures same { IsSameActor self.old self.new }
     {
-        match items.take(&mut self.taker) {
+        match stage.items.take(&mut self.taker) {
             Got::Empty => Took::Nothing,
             Got::Item(item) => {
                 if has_to_wait(&item) {
@@ -60,25 +56,19 @@ impl TagActor {
     }
 
     /// Makes the change of the access in hand, if its number has come.
-    pub(crate) fn serve(
-        &mut self,
-        memory: &TagMemory,
-        items: &Ring<Record>,
-        replies: &Lane<Reply>,
-        item: Record,
-    ) -> Option<TagTurn>
-        requires objects { AreOf memory.now items.now replies.now self.old }
+    pub(crate) fn serve(&mut self, stage: &Stage, item: Record) -> Option<TagTurn>
+        requires objects { AreOf stage.now.memory.now stage.now.items.now stage.now.replies.now self.old }
         requires going { self.old.ended ≡ false }
         requires hand { self.old.hand ≡ Some item }
         requires touch { is_touch item ≡ true }
-        ensures settled { SettledAs replies.now self.old self.new result }
-        ensures objects { AreOf memory.now items.now replies.now self.new }
+        ensures settled { SettledAs stage.now.replies.now self.old self.new result }
+        ensures objects { AreOf stage.now.memory.now stage.now.items.now stage.now.replies.now self.new }
         ensures same { IsSameActor self.old self.new }
     {
         let TagAsk::Serve { word, number, op } = self.file.consume(&self.policy, &item) else {
             unreachable!()
         };
-        match memory.serve(&mut self.pass, word, number, op) {
+        match stage.memory.serve(&mut self.pass, word, number, op) {
             Served::Done { old } => {
                 self.file.consume_answer(&self.policy, &item, old);
                 self.hand = None;
@@ -90,27 +80,20 @@ impl TagActor {
     }
 
     /// Sends the reply to the meeting in hand, if there is room for it. The tags are those after the meeting from then on.
-    pub(crate) fn reply<R: Wait>(
-        &mut self,
-        rt: &R,
-        memory: &TagMemory,
-        items: &Ring<Record>,
-        replies: &Lane<Reply>,
-        item: Record,
-    ) -> Option<TagTurn>
-        requires objects { AreOf memory.now items.now replies.now self.old }
+    pub(crate) fn reply<R: Wait>(&mut self, rt: &R, stage: &Stage, item: Record) -> Option<TagTurn>
+        requires objects { AreOf stage.now.memory.now stage.now.items.now stage.now.replies.now self.old }
         requires going { self.old.ended ≡ false }
         requires hand { self.old.hand ≡ Some item }
         requires meet { is_meet item ≡ true }
-        ensures settled { SettledAs replies.now self.old self.new result }
-        ensures objects { AreOf memory.now items.now replies.now self.new }
+        ensures settled { SettledAs stage.now.replies.now self.old self.new result }
+        ensures objects { AreOf stage.now.memory.now stage.now.items.now stage.now.replies.now self.new }
         ensures same { IsSameActor self.old self.new }
     {
         let mut file = self.file;
         let TagAsk::Answer(reply) = file.consume(&self.policy, &item) else {
             unreachable!()
         };
-        match replies.send(rt, &mut self.sender, reply) {
+        match stage.replies.send(rt, &mut self.sender, reply) {
             Sent::Sent => {
                 self.file = file;
                 self.hand = None;

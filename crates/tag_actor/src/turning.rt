@@ -8,6 +8,7 @@ ghost use Rattle.tag_actor.specs.Turns.{AreOf, IsSameActor, AdvancedAs, IsTurn, 
 
 use crate::actor::TagActor;
 use crate::answer::{Stop, TagTurn, Took};
+use crate::stage::Stage;
 use record_lane::{Lane, Record, Reply, Ring};
 use std::sync::Wait;
 use word_stores::TagMemory;
@@ -25,55 +26,43 @@ fn answer_of(stop: Stop, consumed: bool) -> TagTurn
 
 impl TagActor {
     /// Is done with the record in hand, or says why it has to wait.
-    fn settle<R: Wait>(
-        &mut self,
-        rt: &R,
-        memory: &TagMemory,
-        items: &Ring<Record>,
-        replies: &Lane<Reply>,
-    ) -> Option<TagTurn>
-        requires objects { AreOf memory.now items.now replies.now self.old }
+    fn settle<R: Wait>(&mut self, rt: &R, stage: &Stage) -> Option<TagTurn>
+        requires objects { AreOf stage.now.memory.now stage.now.items.now stage.now.replies.now self.old }
         requires going { self.old.ended ≡ false }
         requires hand { IsSome self.old.hand }
-        ensures settled { SettledAs replies.now self.old self.new result }
-        ensures objects { AreOf memory.now items.now replies.now self.new }
+        ensures settled { SettledAs stage.now.replies.now self.old self.new result }
+        ensures objects { AreOf stage.now.memory.now stage.now.items.now stage.now.replies.now self.new }
         ensures same { IsSameActor self.old self.new }
     {
         let Some(item) = self.hand else {
             unreachable!()
         };
         match item {
-            Record::Touch { .. } => self.serve(memory, items, replies, item),
-            _ => self.reply(rt, memory, items, replies, item),
+            Record::Touch { .. } => self.serve(stage, item),
+            _ => self.reply(rt, stage, item),
         }
     }
 
     /// Consumes one record, or says why it cannot.
-    fn advance<R: Wait>(
-        &mut self,
-        rt: &R,
-        memory: &TagMemory,
-        items: &Ring<Record>,
-        replies: &Lane<Reply>,
-    ) -> Option<Stop>
-        requires objects { AreOf memory.now items.now replies.now self.old }
+    fn advance<R: Wait>(&mut self, rt: &R, stage: &Stage) -> Option<Stop>
+        requires objects { AreOf stage.now.memory.now stage.now.items.now stage.now.replies.now self.old }
         requires going { self.old.ended ≡ false }
-        ensures advanced { AdvancedAs items.now replies.now self.old self.new result }
-        ensures objects { AreOf memory.now items.now replies.now self.new }
+        ensures advanced { AdvancedAs stage.now.items.now stage.now.replies.now self.old self.new result }
+        ensures objects { AreOf stage.now.memory.now stage.now.items.now stage.now.replies.now self.new }
         ensures same { IsSameActor self.old self.new }
     {
         if self.hand.is_some() {
-            let cause = self.settle(rt, memory, items, replies)?;
+            let cause = self.settle(rt, stage)?;
             return Some(Stop { took: false, cause });
         }
-        match self.take(memory, items, replies) {
+        match self.take(stage) {
             Took::Nothing => Some(Stop {
                 took: false,
                 cause: TagTurn::Empty,
             }),
             Took::Consumed => None,
             Took::InHand => {
-                let cause = self.settle(rt, memory, items, replies)?;
+                let cause = self.settle(rt, stage)?;
                 Some(Stop { took: true, cause })
             }
         }
@@ -101,8 +90,13 @@ impl TagActor {
         if self.ended {
             return TagTurn::Ended;
         }
+        let stage = Stage {
+            memory,
+            items,
+            replies,
+        };
         for consumed in 0..quantum {
-            match self.advance(rt, memory, items, replies) {
+            match self.advance(rt, &stage) {
                 Some(stop) => return answer_of(stop, consumed > 0),
                 None => {
                     if self.ended {

@@ -6,7 +6,7 @@ use Rattle.tag_actor.proofs.actor.TagActor.advance.Goals as goal
 
 pub returns-in_err-cause-clause-advanced : goal.returns-in_err-cause-clause-advanced
 returns-in_err-cause-clause-advanced g c =
-    subst (λ (stop : Option Stop). AdvancedAs c.args.items.now c.args.replies.now c.args.self.now c.settle.new.self stop) (sym c.from_residual.ensures) (settled_advances _ _ c.in_err-cause.ensures.settled)
+    subst (λ (stop : Option Stop). AdvancedAs c.args.stage.now.items.now c.args.stage.now.replies.now c.args.self.now c.settle.new.self stop) (sym c.from_residual.ensures) (settled_advances _ _ c.in_err-cause.ensures.settled)
 
 pub returns-then-is_some-clause-advanced : goal.returns-then-is_some-clause-advanced
 returns-then-is_some-clause-advanced g c = held_stops _ _ _ _ _ c.requires.going c.in_ok-cause.ensures.settled
@@ -14,7 +14,7 @@ returns-then-is_some-clause-advanced g c = held_stops _ _ _ _ _ c.requires.going
 pub returns-in_err-cause-in-InHand-clause-advanced :
     goal.returns-in_err-cause-in-InHand-clause-advanced
 returns-in_err-cause-in-InHand-clause-advanced g c =
-    subst (λ (stop : Option Stop). AdvancedAs c.args.items.now c.args.replies.now c.args.self.now c.settle-in-InHand.new.self stop) (sym c.from_residual-in_err-cause-in-InHand.ensures)
+    subst (λ (stop : Option Stop). AdvancedAs c.args.stage.now.items.now c.args.stage.now.replies.now c.args.self.now c.settle-in-InHand.new.self stop) (sym c.from_residual-in_err-cause-in-InHand.ensures)
     (taken_advances _ _ _ c.in-InHand.ensures.took c.in_err-cause-in-InHand.ensures.settled)
 
 pub returns-in-Nothing-clause-advanced : goal.returns-in-Nothing-clause-advanced
