@@ -1,5 +1,5 @@
 -- The record in hand is sound for the memory.
-use Rattle.std.proofs.Common.{◌≡◌, ℕ, ◌+◌, ◌<◌, ◌≤◌, ◌^◌, Option, Some, option_to_list, ◌++◌, length, length-append, ◌∙◌, ap, subst, arith}
+use Rattle.std.proofs.Common.{◌≡◌, ℕ, ◌<◌, ◌≤◌, ◌^◌, Option, Some, option_to_list, length, ◌∙◌, ap, subst, arith}
 use Rattle.rv_execute.specs.declared.op.Op.{Op}
 use Rattle.record_lane.specs.declared.record.Record.{Record}
 use Rattle.record_lane.specs.declared.record.Record.TheVariants.{Quiet, Blank, Touch, Meet, Back, End}
@@ -17,8 +17,9 @@ use Rattle.tag_actor.specs.Seen.{TagActorSeen}
 use Rattle.record_lane.specs.Rings.{taken_by}
 use Rattle.record_lane.specs.Lanes.{sent_by}
 use Rattle.actor_lists.proofs.Folded.{replies_no_more}
-use Rattle.tag_actor.specs.Standing.{last_record, IsTagActor}
+use Rattle.tag_actor.specs.Standing.{IsTagActor}
 use Rattle.tag_actor.specs.Turns.{AreOf}
+use Rattle.tag_actor.proofs.Standing.{count_taken}
 
 -- for smaller numbers it is sound for greater ones
 pub sound_below : (words top : ℕ) (item : Record) → IsSoundRecord words top item → words ≤ 4294967295 → top ≤ 4294967295 → IsSoundRecord 4294967295 4294967295 item
@@ -51,12 +52,9 @@ asks_own policy tags words top End word number op e h = absurd (cc)
 pub few_replies : (a v : TagActorSeen) (item : Record) → v ≡ a → IsTagActor v → a.hand ≡ Some item → length (sent_by v.sender) < 2 ^ 61
 few_replies a v item is h held =
     let one : length (option_to_list v.hand) ≡ 1 = ap (λ (t : TagActorSeen). length (option_to_list t.hand)) is ∙ ap (λ (hand : Option Record). length (option_to_list hand)) held in
-    let all : length (taken_by v.taker) ≡ length (h.consumed).items + (length (option_to_list v.hand) + length (last_record v.ended)) =
-    ap length (h.consumed).taken ∙ length-append (h.consumed).items (option_to_list v.hand ++ last_record v.ended)
-    ∙ ap (λ n. length (h.consumed).items + n) (length-append (option_to_list v.hand) (last_record v.ended)) in
     let sent : length (sent_by v.sender) ≤ length (h.consumed).items = replies_no_more _ _ _ _ _ _ _ _ (h.consumed).folded in
     let few : length (taken_by v.taker) ≤ 2 ^ 61 = (h.consumed).few in
-    omega arith
+    omega (arith, count_taken v h.consumed)
 
 pub may_serve : (memory : TableSeen) (items : Ring Record) (replies : Lane Reply) (a v : TagActorSeen) (item : Record) (policy : PolicySeen) (tags : Tags) (word number : ℕ) (op : Op)
     → v ≡ a → IsTagActor v → AreOf memory items replies a → a.hand ≡ Some item → tag_ask policy tags item ≡ Serve word number op

@@ -108,14 +108,17 @@ consumes_record a b item found h consumes = by_end (is_end item) refl
 
 -- ---- the invariant
 
+-- all that was taken is what was consumed, what is in the hand, and the end
+pub count_taken : (t : TagActorSeen) (h : HasRecords t) → length (taken_by t.taker) ≡ length h.items + (length (option_to_list t.hand) + length (last_record t.ended))
+count_taken t h =
+    ap length h.taken ∙ length-append h.items (option_to_list t.hand ++ last_record t.ended)
+    ∙ ap (λ n. length h.items + n) (length-append (option_to_list t.hand) (last_record t.ended))
+
 -- how many records were consumed, where one is in the hand and where none is
 count_held : (t : TagActorSeen) (item : Record) → HasRecords t → t.hand ≡ Some item → consumed_by t + 1 ≡ length (taken_by t.taker)
 count_held t item h held =
     let one : length (option_to_list t.hand) ≡ 1 = ap (λ (hand : Option Record). length (option_to_list hand)) held in
-    let all : length (taken_by t.taker) ≡ length h.items + (length (option_to_list t.hand) + length (last_record t.ended)) =
-    ap length h.taken ∙ length-append h.items (option_to_list t.hand ++ last_record t.ended)
-    ∙ ap (λ n. length h.items + n) (length-append (option_to_list t.hand) (last_record t.ended)) in
-    omega arith
+    omega (arith, count_taken t h)
 
 count_free : (t : TagActorSeen) → t.hand ≡ None → consumed_by t ≡ length (taken_by t.taker)
 count_free t free =

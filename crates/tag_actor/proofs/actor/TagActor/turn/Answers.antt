@@ -35,31 +35,19 @@ pub returns-clause-turn : goal.returns-clause-turn
 returns-clause-turn g c = whole_turn _ _ c.args.quantum c.loop-consumed.consumed _ _ c.loop-consumed.invariant.going c.requires.quantum (omega arith)
 
 pub returns-in-Some-clause-went : goal.returns-in-Some-clause-went
-returns-in-Some-clause-went g c =
-    went_is _ _ c.args.quantum _ _ _ _ c.self.view_is c.self.invariant c.requires.quantum
-    (stops_turn c.args.items.now c.args.replies.now c.args.quantum c.loop-consumed.consumed _ _ _ _ _ c.loop-consumed.invariant.going c.in-Some.ensures.advanced c.loop-consumed-test.true c.answer_of.ensures)
+returns-in-Some-clause-went g c = went_is _ _ c.args.quantum _ _ _ _ c.self.view_is c.self.invariant c.requires.quantum (returns-in-Some-clause-turn g c)
 
 pub returns-clause-went : goal.returns-clause-went
-returns-clause-went g c =
-    went_is c.args.items.now c.args.replies.now c.args.quantum _ _ _ _ c.self.view_is c.self.invariant c.requires.quantum
-    (whole_turn _ _ c.args.quantum c.loop-consumed.consumed _ _ c.loop-consumed.invariant.going c.requires.quantum (omega arith))
+returns-clause-went g c = went_is _ _ c.args.quantum _ _ _ _ c.self.view_is c.self.invariant c.requires.quantum (returns-clause-turn g c)
 
 pub returns-then-self-clause-machine : goal.returns-then-self-clause-machine
-returns-then-self-clause-machine g c =
-    turn_in c.args.items.now c.args.replies.now c.args.quantum _ _ _ (rests _ _ _ _ (sym (ap (λ (t : TagActorSeen). t.ended) c.self.view_is) ∙ c.if-self.true))
+returns-then-self-clause-machine g c = turn_in _ _ c.args.quantum _ _ _ (returns-then-self-clause-turn g c)
 
 pub returns-in-Some-clause-machine : goal.returns-in-Some-clause-machine
-returns-in-Some-clause-machine g c =
-    turn_in _ _ c.args.quantum _ _ _
-    (stops_turn c.args.items.now c.args.replies.now c.args.quantum c.loop-consumed.consumed _ _ _ _ _ c.loop-consumed.invariant.going c.in-Some.ensures.advanced c.loop-consumed-test.true c.answer_of.ensures)
+returns-in-Some-clause-machine g c = turn_in _ _ c.args.quantum _ _ _ (returns-in-Some-clause-turn g c)
 
 pub returns-then-self-2-clause-machine : goal.returns-then-self-2-clause-machine
-returns-then-self-2-clause-machine g c =
-    turn_in c.args.items.now c.args.replies.now c.args.quantum _ _ _
-    (ends_turn _ _ c.args.quantum c.loop-consumed.consumed _ _ _ c.loop-consumed.invariant.going c.in-None.ensures.advanced c.loop-consumed-test.true
-    (sym (ap (λ (t : TagActorSeen). t.ended) c.self-in-loop-consumed.view_is) ∙ c.if-self-2.true))
+returns-then-self-2-clause-machine g c = turn_in _ _ c.args.quantum _ _ _ (returns-then-self-2-clause-turn g c)
 
 pub returns-clause-machine : goal.returns-clause-machine
-returns-clause-machine g c =
-    turn_in c.args.items.now c.args.replies.now c.args.quantum _ _ _
-    (whole_turn _ _ c.args.quantum c.loop-consumed.consumed _ _ c.loop-consumed.invariant.going c.requires.quantum (omega arith))
+returns-clause-machine g c = turn_in _ _ c.args.quantum _ _ _ (returns-clause-turn g c)
