@@ -5,6 +5,7 @@ ghost use Rattle.record_lane.specs.Lanes.{sent_by};
 ghost use Rattle.record_lane.specs.Rings.{taken_by};
 ghost use Rattle.tag_policy.specs.Policies.{policy_in};
 ghost use Rattle.tag_actor.specs.Seen.{done_by, begins};
+ghost use Rattle.tag_actor.specs.Standing.{HasRecords};
 ghost use Rattle.tag_actor.specs.Leaving.{HasLeft};
 
 use record_lane::{Record, Reply, RingTaker, Sender, Trap};
@@ -91,9 +92,10 @@ impl TagActor {
         }
     }
 
-    /// How many records it has consumed, or 4,294,967,295 where they are more.
+    /// How many records it has consumed, or 4,294,967,295 where they are more. Its tags, changes and replies are their fold.
     pub fn done(&self) -> u32
-        ensures { result ≡ done_by self.now }
+        ensures count { result ≡ done_by self.now }
+        ensures stands { HasRecords self.now }
     {
         self.done
     }
