@@ -23,7 +23,8 @@ use Rattle.order_core.specs.Protocol.{committed}
 use Rattle.hart_actor.specs.declared.stage.Stage.{Stage}
 use Rattle.hart_actor.specs.declared.stage.Stage.TheVariants.{Going, Meeting, Closed}
 use Rattle.hart_actor.specs.Harts.{Hart}
-use Rattle.hart_actor.specs.Moves.{Commit, Resume, Side, side_of, queued_of, drawn_as, numbers_in, is_meeting, is_closed, Commits}
+use Rattle.actor_lists.specs.Queued.{queued_of}
+use Rattle.hart_actor.specs.Moves.{Commit, Resume, Side, side_of, drawn_as, numbers_in, is_meeting, is_closed, Commits}
 use Rattle.hart_actor.specs.Turns.{HasMoved, HasStepped}
 use Rattle.hart_actor.specs.declared.turn.Step.TheVariants.{Full as IsBlocked, Waits as IsWaiting}
 

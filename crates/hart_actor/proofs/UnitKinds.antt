@@ -35,7 +35,8 @@ use Rattle.hart_actor.specs.Harts.{Hart, ahead, size_placed}
 use Rattle.hart_actor.specs.Standing.{top_of}
 use Rattle.hart_actor.proofs.Stages.{sent_all}
 use Rattle.hart_actor.proofs.UnitSteps.{UnitDone, going_unspent, unit_units}
-use Rattle.hart_actor.specs.Moves.{queued_of, drawn_as}
+use Rattle.actor_lists.specs.Queued.{queued_of}
+use Rattle.hart_actor.specs.Moves.{drawn_as}
 use Rattle.hart_actor.proofs.Moving.{stage_with}
 
 -- what the next unit asks, of an actor as its callers see it

@@ -1,7 +1,6 @@
 -- The moves of a hart actor, each a step of the protocol machine for its core, whatever its lane and its reply slot hold (this project's own).
 use Rattle.std.specs.Prelude.{◌≡◌, ℕ, Bool, true, false, Option, Some, None, IsSome, List, [], ◌∷◌, ◌++◌, map, option_to_list}
 use Rattle.record_lane.specs.declared.record.Record.{Record}
-use Rattle.record_lane.specs.declared.record.Record.TheVariants.{Quiet as QuietRecord, Blank as BlankRecord, Touch as TouchRecord, Meet as MeetRecord, Back, End as EndRecord}
 use Rattle.record_lane.specs.declared.reply.Reply.{Reply}
 use Rattle.record_lane.specs.Rings.{sent_by}
 use Rattle.record_lane.specs.Lanes.{taken_by}
@@ -14,16 +13,8 @@ use Rattle.order_core.specs.Protocol.{is_free, committed, sent, resumed}
 use Rattle.bounded_list.specs.Bounded.{Bounded}
 use Rattle.hart_actor.specs.declared.stage.Stage.{Stage}
 use Rattle.hart_actor.specs.declared.stage.Stage.TheVariants.{Going, Meeting, Closed}
+use Rattle.actor_lists.specs.Queued.{queued_of}
 use Rattle.hart_actor.specs.Harts.{Hart}
-
--- a record as the protocol has it: its shape, and the number that it drew
-abbrev pub queued_of : Record → Queued
-queued_of (QuietRecord step pc insn faulted) = record { shape = Quiet; number = 0 }
-queued_of (BlankRecord step pc) = record { shape = Quiet; number = 0 }
-queued_of (TouchRecord step pc word number why) = record { shape = Touch word; number = number }
-queued_of (MeetRecord step pc call kind) = record { shape = Meet; number = 0 }
-queued_of (Back step pc) = record { shape = Quiet; number = 0 }
-queued_of EndRecord = record { shape = End; number = 0 }
 
 abbrev pub is_meeting : Stage → Bool
 is_meeting Going = false

@@ -15,7 +15,8 @@ use Rattle.tag_actor.specs.Moves.{HasTaken, TagMove, Takes, Consumes, Leads}
 use Rattle.tag_actor.specs.Turns.{StopsFor, IsTurn}
 use Rattle.tag_actor.specs.declared.answer.TagTurn.{TagTurn}
 use Rattle.tag_actor.specs.declared.answer.TagTurn.TheVariants.{Went, Empty, NotYet, ReplyFull, Ended}
-use Rattle.tag_actor.specs.Machine.{queued_of, machine_move, HasLane, IsItsTurn, HasFollowed, MovesOfTheMachine, LeadsInMachine, IsTurnOfTheMachine}
+use Rattle.actor_lists.specs.Queued.{queued_of}
+use Rattle.tag_actor.specs.Machine.{machine_move, HasLane, IsItsTurn, HasFollowed, MovesOfTheMachine, LeadsInMachine, IsTurnOfTheMachine}
 
 -- a record that comes into the hand
 takes_nothing : (a b : TagActorSeen) (item : Record) (s : Protocol) (core : ℕ) (queue left : List Queued)

@@ -1,23 +1,14 @@
 -- The moves of a tag actor as moves of the protocol machine, whose lane of a core is the record in the actor's hand followed by the queue (this project's own).
 use Rattle.std.specs.Prelude.{◌≡◌, ℕ, ◌<◌, true, false, slice_index, Option, Some, None, option_to_list, List, [], ◌∷◌, ◌++◌, map, length}
 use Rattle.record_lane.specs.declared.record.Record.{Record}
-use Rattle.record_lane.specs.declared.record.Record.TheVariants.{Quiet, Blank, Touch, Meet, Back, End}
-use Rattle.order_core.specs.declared.shape.Shape.TheVariants.{Quiet as QuietShape, Touch as TouchShape, Meet as MeetShape, End as EndShape}
+use Rattle.record_lane.specs.declared.record.Record.TheVariants.{Touch, Meet}
 use Rattle.order_core.specs.declared.shape.Move.{Move}
 use Rattle.order_core.specs.declared.shape.Move.TheVariants.{Serve, Reply}
 use Rattle.order_core.specs.declared.shape.Queued.{Queued}
 use Rattle.order_core.specs.Protocol.{Protocol, core_at, can_act, act}
+use Rattle.actor_lists.specs.Queued.{queued_of}
 use Rattle.tag_actor.specs.Seen.{TagActorSeen}
 use Rattle.tag_actor.specs.Moves.{TagMove, Takes, Consumes, IsMove}
-
--- what the machine knows of a record
-abbrev pub queued_of : Record → Queued
-queued_of (Quiet step pc insn faulted) = record { shape = QuietShape; number = 0 }
-queued_of (Blank step pc) = record { shape = QuietShape; number = 0 }
-queued_of (Touch step pc word number why) = record { shape = TouchShape word; number = number }
-queued_of (Meet step pc call kind) = record { shape = MeetShape; number = 0 }
-queued_of (Back step pc) = record { shape = QuietShape; number = 0 }
-queued_of End = record { shape = EndShape; number = 0 }
 
 -- a record that comes into the hand stays in the lane; a meeting that is answered is a reply, and any other record that is consumed is served
 abbrev pub machine_move : ℕ → TagMove → Option Move
