@@ -79,4 +79,5 @@ pub record HartLeaves (h : Hart) (parts : HartParts) : Type 0 where
   pub ending : h.local.ending ≡ Some parts.end
   pub units : parts.units ≡ h.local.units
   pub whole : cut_length parts.pieces.items ≡ length parts.output.items
+  pub caller : parts.pass.caller ≡ h.core
   pub tokens : (parts.pass ≡ h.pass) × (parts.sender ≡ h.sender) × (parts.taker ≡ h.taker)

@@ -1,0 +1,2 @@
+//! A run with a thread for each actor: the cores of a setup and their tag actors.
+#![tactic(auto)]
