@@ -2,546 +2,149 @@
 
 use crate::insn::{AmoKind, BranchKind, ImmKind, Insn, LoadKind, RegKind, StoreKind};
 use crate::{decode, encode, fits};
+use std::process::Abort;
 
-/// Words with plain free bits, as an assembler writes them.
-const PLAIN: [(u32, Insn); 63] = [
-    (
-        0x1234_5537,
-        Insn::Lui {
-            rd: 10,
-            imm: 0x1234_5000,
-        },
-    ), // lui a0, 0x12345
-    (
-        0xffff_f0b7,
-        Insn::Lui {
-            rd: 1,
-            imm: 0xffff_f000,
-        },
-    ), // lui ra, 0xfffff
-    (0x0000_1297, Insn::Auipc { rd: 5, imm: 0x1000 }), // auipc t0, 0x1
-    (0x0080_00ef, Insn::Jal { rd: 1, imm: 8 }), // jal ra, 8
-    (0xffdf_f06f, Insn::Jal { rd: 0, imm: -4 }), // j -4
-    (
-        0x8000_006f,
-        Insn::Jal {
-            rd: 0,
-            imm: -1_048_576,
-        },
-    ), // j -1048576
-    (
-        0x7fff_f06f,
-        Insn::Jal {
-            rd: 0,
-            imm: 1_048_574,
-        },
-    ), // j 1048574
-    (
-        0x0000_8067,
-        Insn::Jalr {
-            rd: 0,
-            rs1: 1,
-            imm: 0,
-        },
-    ), // ret
-    (
-        0x00b5_0863,
-        Insn::Branch {
-            kind: BranchKind::Beq,
-            rs1: 10,
-            rs2: 11,
-            imm: 16,
-        },
-    ), // beq a0, a1, 16
-    (
-        0xfe62_9ce3,
-        Insn::Branch {
-            kind: BranchKind::Bne,
-            rs1: 5,
-            rs2: 6,
-            imm: -8,
-        },
-    ), // bne t0, t1, -8
-    (
-        0x7e20_cfe3,
-        Insn::Branch {
-            kind: BranchKind::Blt,
-            rs1: 1,
-            rs2: 2,
-            imm: 4094,
-        },
-    ), // blt ra, sp, 4094
-    (
-        0x8041_d063,
-        Insn::Branch {
-            kind: BranchKind::Bge,
-            rs1: 3,
-            rs2: 4,
-            imm: -4096,
-        },
-    ), // bge gp, tp, -4096
-    (
-        0x0094_60e3,
-        Insn::Branch {
-            kind: BranchKind::Bltu,
-            rs1: 8,
-            rs2: 9,
-            imm: 2048,
-        },
-    ), // bltu s0, s1, 2048
-    (
-        0x02b5_7063,
-        Insn::Branch {
-            kind: BranchKind::Bgeu,
-            rs1: 10,
-            rs2: 11,
-            imm: 32,
-        },
-    ), // bgeu a0, a1, 32
-    (
-        0xfff5_8503,
-        Insn::Load {
-            kind: LoadKind::Lb,
-            rd: 10,
-            rs1: 11,
-            imm: -1,
-        },
-    ), // lb a0, -1(a1)
-    (
-        0x0023_1283,
-        Insn::Load {
-            kind: LoadKind::Lh,
-            rd: 5,
-            rs1: 6,
-            imm: 2,
-        },
-    ), // lh t0, 2(t1)
-    (
-        0x0081_2503,
-        Insn::Load {
-            kind: LoadKind::Lw,
-            rd: 10,
-            rs1: 2,
-            imm: 8,
-        },
-    ), // lw a0, 8(sp)
-    (
-        0x0007_c703,
-        Insn::Load {
-            kind: LoadKind::Lbu,
-            rd: 14,
-            rs1: 15,
-            imm: 0,
-        },
-    ), // lbu a4, 0(a5)
-    (
-        0x7ff4_5383,
-        Insn::Load {
-            kind: LoadKind::Lhu,
-            rd: 7,
-            rs1: 8,
-            imm: 2047,
-        },
-    ), // lhu t2, 2047(s0)
-    (
-        0x00a5_8223,
-        Insn::Store {
-            kind: StoreKind::Sb,
-            rs1: 11,
-            rs2: 10,
-            imm: 4,
-        },
-    ), // sb a0, 4(a1)
-    (
-        0xfe63_9f23,
-        Insn::Store {
-            kind: StoreKind::Sh,
-            rs1: 7,
-            rs2: 6,
-            imm: -2,
-        },
-    ), // sh t1, -2(t2)
-    (
-        0x0011_2623,
-        Insn::Store {
-            kind: StoreKind::Sw,
-            rs1: 2,
-            rs2: 1,
-            imm: 12,
-        },
-    ), // sw ra, 12(sp)
-    (
-        0xff01_0113,
-        Insn::Imm {
-            kind: ImmKind::Addi,
-            rd: 2,
-            rs1: 2,
-            imm: -16,
-        },
-    ), // addi sp, sp, -16
-    (
-        0x8003_2293,
-        Insn::Imm {
-            kind: ImmKind::Slti,
-            rd: 5,
-            rs1: 6,
-            imm: -2048,
-        },
-    ), // slti t0, t1, -2048
-    (
-        0x0015_3513,
-        Insn::Imm {
-            kind: ImmKind::Sltiu,
-            rd: 10,
-            rs1: 10,
-            imm: 1,
-        },
-    ), // seqz a0, a0
-    (
-        0xfff5_4513,
-        Insn::Imm {
-            kind: ImmKind::Xori,
-            rd: 10,
-            rs1: 10,
-            imm: -1,
-        },
-    ), // not a0, a0
-    (
-        0x0013_6293,
-        Insn::Imm {
-            kind: ImmKind::Ori,
-            rd: 5,
-            rs1: 6,
-            imm: 1,
-        },
-    ), // ori t0, t1, 1
-    (
-        0x0ff5_7513,
-        Insn::Imm {
-            kind: ImmKind::Andi,
-            rd: 10,
-            rs1: 10,
-            imm: 255,
-        },
-    ), // zext.b a0, a0
-    (
-        0x01f5_1513,
-        Insn::Imm {
-            kind: ImmKind::Slli,
-            rd: 10,
-            rs1: 10,
-            imm: 31,
-        },
-    ), // slli a0, a0, 31
-    (
-        0x0105_5513,
-        Insn::Imm {
-            kind: ImmKind::Srli,
-            rd: 10,
-            rs1: 10,
-            imm: 16,
-        },
-    ), // srli a0, a0, 16
-    (
-        0x41f5_5513,
-        Insn::Imm {
-            kind: ImmKind::Srai,
-            rd: 10,
-            rs1: 10,
-            imm: 31,
-        },
-    ), // srai a0, a0, 31
-    (
-        0x00b5_0533,
-        Insn::Reg {
-            kind: RegKind::Add,
-            rd: 10,
-            rs1: 10,
-            rs2: 11,
-        },
-    ), // add a0, a0, a1
-    (
-        0x40b5_0533,
-        Insn::Reg {
-            kind: RegKind::Sub,
-            rd: 10,
-            rs1: 10,
-            rs2: 11,
-        },
-    ), // sub a0, a0, a1
-    (
-        0x00b5_1533,
-        Insn::Reg {
-            kind: RegKind::Sll,
-            rd: 10,
-            rs1: 10,
-            rs2: 11,
-        },
-    ), // sll a0, a0, a1
-    (
-        0x00b5_2533,
-        Insn::Reg {
-            kind: RegKind::Slt,
-            rd: 10,
-            rs1: 10,
-            rs2: 11,
-        },
-    ), // slt a0, a0, a1
-    (
-        0x00b5_3533,
-        Insn::Reg {
-            kind: RegKind::Sltu,
-            rd: 10,
-            rs1: 10,
-            rs2: 11,
-        },
-    ), // sltu a0, a0, a1
-    (
-        0x00b5_4533,
-        Insn::Reg {
-            kind: RegKind::Xor,
-            rd: 10,
-            rs1: 10,
-            rs2: 11,
-        },
-    ), // xor a0, a0, a1
-    (
-        0x00b5_5533,
-        Insn::Reg {
-            kind: RegKind::Srl,
-            rd: 10,
-            rs1: 10,
-            rs2: 11,
-        },
-    ), // srl a0, a0, a1
-    (
-        0x40b5_5533,
-        Insn::Reg {
-            kind: RegKind::Sra,
-            rd: 10,
-            rs1: 10,
-            rs2: 11,
-        },
-    ), // sra a0, a0, a1
-    (
-        0x00b5_6533,
-        Insn::Reg {
-            kind: RegKind::Or,
-            rd: 10,
-            rs1: 10,
-            rs2: 11,
-        },
-    ), // or a0, a0, a1
-    (
-        0x00b5_7533,
-        Insn::Reg {
-            kind: RegKind::And,
-            rd: 10,
-            rs1: 10,
-            rs2: 11,
-        },
-    ), // and a0, a0, a1
-    (
-        0x02b5_0533,
-        Insn::Reg {
-            kind: RegKind::Mul,
-            rd: 10,
-            rs1: 10,
-            rs2: 11,
-        },
-    ), // mul a0, a0, a1
-    (
-        0x02b5_1533,
-        Insn::Reg {
-            kind: RegKind::Mulh,
-            rd: 10,
-            rs1: 10,
-            rs2: 11,
-        },
-    ), // mulh a0, a0, a1
-    (
-        0x02b5_2533,
-        Insn::Reg {
-            kind: RegKind::Mulhsu,
-            rd: 10,
-            rs1: 10,
-            rs2: 11,
-        },
-    ), // mulhsu a0, a0, a1
-    (
-        0x02b5_3533,
-        Insn::Reg {
-            kind: RegKind::Mulhu,
-            rd: 10,
-            rs1: 10,
-            rs2: 11,
-        },
-    ), // mulhu a0, a0, a1
-    (
-        0x02b5_4533,
-        Insn::Reg {
-            kind: RegKind::Div,
-            rd: 10,
-            rs1: 10,
-            rs2: 11,
-        },
-    ), // div a0, a0, a1
-    (
-        0x02b5_5533,
-        Insn::Reg {
-            kind: RegKind::Divu,
-            rd: 10,
-            rs1: 10,
-            rs2: 11,
-        },
-    ), // divu a0, a0, a1
-    (
-        0x02b5_6533,
-        Insn::Reg {
-            kind: RegKind::Rem,
-            rd: 10,
-            rs1: 10,
-            rs2: 11,
-        },
-    ), // rem a0, a0, a1
-    (
-        0x02b5_7533,
-        Insn::Reg {
-            kind: RegKind::Remu,
-            rd: 10,
-            rs1: 10,
-            rs2: 11,
-        },
-    ), // remu a0, a0, a1
-    (0x0ff0_000f, Insn::Fence), // fence iorw, iorw
-    (0x0000_0073, Insn::Ecall), // ecall
-    (0x0010_0073, Insn::Ebreak), // ebreak
-    (0x1005_22af, Insn::Lr { rd: 5, rs1: 10 }), // lr.w t0, (a0)
-    (
-        0x1875_232f,
-        Insn::Sc {
-            rd: 6,
-            rs1: 10,
-            rs2: 7,
-        },
-    ), // sc.w t1, t2, (a0)
-    (
-        0x00c5_25af,
-        Insn::Amo {
-            kind: AmoKind::Add,
-            rd: 11,
-            rs1: 10,
-            rs2: 12,
-        },
-    ), // amoadd.w a1, a2, (a0)
-    (
-        0x08c5_25af,
-        Insn::Amo {
-            kind: AmoKind::Swap,
-            rd: 11,
-            rs1: 10,
-            rs2: 12,
-        },
-    ), // amoswap.w a1, a2, (a0)
-    (
-        0x20c5_25af,
-        Insn::Amo {
-            kind: AmoKind::Xor,
-            rd: 11,
-            rs1: 10,
-            rs2: 12,
-        },
-    ), // amoxor.w a1, a2, (a0)
-    (
-        0x40c5_25af,
-        Insn::Amo {
-            kind: AmoKind::Or,
-            rd: 11,
-            rs1: 10,
-            rs2: 12,
-        },
-    ), // amoor.w a1, a2, (a0)
-    (
-        0x60c5_25af,
-        Insn::Amo {
-            kind: AmoKind::And,
-            rd: 11,
-            rs1: 10,
-            rs2: 12,
-        },
-    ), // amoand.w a1, a2, (a0)
-    (
-        0x80c5_25af,
-        Insn::Amo {
-            kind: AmoKind::Min,
-            rd: 11,
-            rs1: 10,
-            rs2: 12,
-        },
-    ), // amomin.w a1, a2, (a0)
-    (
-        0xa0c5_25af,
-        Insn::Amo {
-            kind: AmoKind::Max,
-            rd: 11,
-            rs1: 10,
-            rs2: 12,
-        },
-    ), // amomax.w a1, a2, (a0)
-    (
-        0xc0c5_25af,
-        Insn::Amo {
-            kind: AmoKind::Minu,
-            rd: 11,
-            rs1: 10,
-            rs2: 12,
-        },
-    ), // amominu.w a1, a2, (a0)
-    (
-        0xe0c5_25af,
-        Insn::Amo {
-            kind: AmoKind::Maxu,
-            rd: 11,
-            rs1: 10,
-            rs2: 12,
-        },
-    ), // amomaxu.w a1, a2, (a0)
-];
+/// Asserts that the word means the instruction, and that it is the instruction's plain word.
+fn assert_pair(rt: &impl Abort, word: u32, insn: Insn) {
+    assert_eq!(rt; decode(word), Some(insn), "decoding {word:08x}");
+    assert!(rt; fits(insn), "fitting {word:08x}");
+    assert_eq!(rt; encode(insn), word, "encoding {word:08x}");
+}
 
-/// Words with other free bits.
-const FREE: [(u32, Insn); 8] = [
-    (0x8330_000f, Insn::Fence), // fence.tso
-    (0x0100_000f, Insn::Fence), // pause
-    (0x0ff5_058f, Insn::Fence), // fence with rd and rs1
-    (0x1405_22af, Insn::Lr { rd: 5, rs1: 10 }), // lr.w.aq t0, (a0)
-    (0x1605_22af, Insn::Lr { rd: 5, rs1: 10 }), // lr.w.aqrl t0, (a0)
-    (
-        0x1a75_232f,
-        Insn::Sc {
-            rd: 6,
-            rs1: 10,
-            rs2: 7,
-        },
-    ), // sc.w.rl t1, t2, (a0)
-    (
-        0x0c63_a2af,
-        Insn::Amo {
-            kind: AmoKind::Swap,
-            rd: 5,
-            rs1: 7,
-            rs2: 6,
-        },
-    ), // amoswap.w.aq t0, t1, (t2)
-    (
-        0x06c5_25af,
-        Insn::Amo {
-            kind: AmoKind::Add,
-            rd: 11,
-            rs1: 10,
-            rs2: 12,
-        },
-    ), // amoadd.w.aqrl a1, a2, (a0)
-];
+#[test]
+fn upper_immediates_and_jumps(rt: HostRuntime) {
+    for (word, rd, imm) in [
+        (0x1234_5537, 10, 0x1234_5000), // lui a0, 0x12345
+        (0xffff_f0b7, 1, 0xffff_f000), // lui ra, 0xfffff
+    ] {
+        assert_pair(&rt, word, Insn::Lui { rd, imm });
+    }
+    for (word, rd, imm) in [
+        (0x0080_00ef, 1, 8), // jal ra, 8
+        (0xffdf_f06f, 0, -4), // j -4
+        (0x8000_006f, 0, -1_048_576), // j -1048576
+        (0x7fff_f06f, 0, 1_048_574), // j 1048574
+    ] {
+        assert_pair(&rt, word, Insn::Jal { rd, imm });
+    }
+    let (rd, rs1, imm) = (0, 1, 0);
+    for (word, insn) in [
+        (0x0000_1297, Insn::Auipc { rd: 5, imm: 0x1000 }), // auipc t0, 0x1
+        (0x0000_8067, Insn::Jalr { rd, rs1, imm }), // ret
+        (0x0ff0_000f, Insn::Fence), // fence iorw, iorw
+        (0x0000_0073, Insn::Ecall), // ecall
+        (0x0010_0073, Insn::Ebreak), // ebreak
+    ] {
+        assert_pair(&rt, word, insn);
+    }
+}
+
+#[test]
+fn branches_and_stores(rt: HostRuntime) {
+    for (word, kind, rs1, rs2, imm) in [
+        (0x00b5_0863, BranchKind::Beq, 10, 11, 16), // beq a0, a1, 16
+        (0xfe62_9ce3, BranchKind::Bne, 5, 6, -8), // bne t0, t1, -8
+        (0x7e20_cfe3, BranchKind::Blt, 1, 2, 4094), // blt ra, sp, 4094
+        (0x8041_d063, BranchKind::Bge, 3, 4, -4096), // bge gp, tp, -4096
+        (0x0094_60e3, BranchKind::Bltu, 8, 9, 2048), // bltu s0, s1, 2048
+        (0x02b5_7063, BranchKind::Bgeu, 10, 11, 32), // bgeu a0, a1, 32
+    ] {
+        let insn = Insn::Branch {
+            kind,
+            rs1,
+            rs2,
+            imm,
+        };
+        assert_pair(&rt, word, insn);
+    }
+    for (word, kind, rs1, rs2, imm) in [
+        (0x00a5_8223, StoreKind::Sb, 11, 10, 4), // sb a0, 4(a1)
+        (0xfe63_9f23, StoreKind::Sh, 7, 6, -2), // sh t1, -2(t2)
+        (0x0011_2623, StoreKind::Sw, 2, 1, 12), // sw ra, 12(sp)
+    ] {
+        let insn = Insn::Store {
+            kind,
+            rs1,
+            rs2,
+            imm,
+        };
+        assert_pair(&rt, word, insn);
+    }
+}
+
+#[test]
+fn loads_and_immediates(rt: HostRuntime) {
+    for (word, kind, rd, rs1, imm) in [
+        (0xfff5_8503, LoadKind::Lb, 10, 11, -1), // lb a0, -1(a1)
+        (0x0023_1283, LoadKind::Lh, 5, 6, 2), // lh t0, 2(t1)
+        (0x0081_2503, LoadKind::Lw, 10, 2, 8), // lw a0, 8(sp)
+        (0x0007_c703, LoadKind::Lbu, 14, 15, 0), // lbu a4, 0(a5)
+        (0x7ff4_5383, LoadKind::Lhu, 7, 8, 2047), // lhu t2, 2047(s0)
+    ] {
+        assert_pair(&rt, word, Insn::Load { kind, rd, rs1, imm });
+    }
+    for (word, kind, rd, rs1, imm) in [
+        (0xff01_0113, ImmKind::Addi, 2, 2, -16), // addi sp, sp, -16
+        (0x8003_2293, ImmKind::Slti, 5, 6, -2048), // slti t0, t1, -2048
+        (0x0015_3513, ImmKind::Sltiu, 10, 10, 1), // seqz a0, a0
+        (0xfff5_4513, ImmKind::Xori, 10, 10, -1), // not a0, a0
+        (0x0013_6293, ImmKind::Ori, 5, 6, 1), // ori t0, t1, 1
+        (0x0ff5_7513, ImmKind::Andi, 10, 10, 255), // zext.b a0, a0
+        (0x01f5_1513, ImmKind::Slli, 10, 10, 31), // slli a0, a0, 31
+        (0x0105_5513, ImmKind::Srli, 10, 10, 16), // srli a0, a0, 16
+        (0x41f5_5513, ImmKind::Srai, 10, 10, 31), // srai a0, a0, 31
+    ] {
+        assert_pair(&rt, word, Insn::Imm { kind, rd, rs1, imm });
+    }
+}
+
+#[test]
+fn operations_on_registers(rt: HostRuntime) {
+    let (rd, rs1, rs2) = (10, 10, 11);
+    for (word, kind) in [
+        (0x00b5_0533, RegKind::Add), // add a0, a0, a1
+        (0x40b5_0533, RegKind::Sub), // sub a0, a0, a1
+        (0x00b5_1533, RegKind::Sll), // sll a0, a0, a1
+        (0x00b5_2533, RegKind::Slt), // slt a0, a0, a1
+        (0x00b5_3533, RegKind::Sltu), // sltu a0, a0, a1
+        (0x00b5_4533, RegKind::Xor), // xor a0, a0, a1
+        (0x00b5_5533, RegKind::Srl), // srl a0, a0, a1
+        (0x40b5_5533, RegKind::Sra), // sra a0, a0, a1
+        (0x00b5_6533, RegKind::Or), // or a0, a0, a1
+        (0x00b5_7533, RegKind::And), // and a0, a0, a1
+        (0x02b5_0533, RegKind::Mul), // mul a0, a0, a1
+        (0x02b5_1533, RegKind::Mulh), // mulh a0, a0, a1
+        (0x02b5_2533, RegKind::Mulhsu), // mulhsu a0, a0, a1
+        (0x02b5_3533, RegKind::Mulhu), // mulhu a0, a0, a1
+        (0x02b5_4533, RegKind::Div), // div a0, a0, a1
+        (0x02b5_5533, RegKind::Divu), // divu a0, a0, a1
+        (0x02b5_6533, RegKind::Rem), // rem a0, a0, a1
+        (0x02b5_7533, RegKind::Remu), // remu a0, a0, a1
+    ] {
+        assert_pair(&rt, word, Insn::Reg { kind, rd, rs1, rs2 });
+    }
+}
+
+#[test]
+fn atomic_instructions(rt: HostRuntime) {
+    let (rd, rs1, rs2) = (11, 10, 12);
+    for (word, kind) in [
+        (0x00c5_25af, AmoKind::Add), // amoadd.w a1, a2, (a0)
+        (0x08c5_25af, AmoKind::Swap), // amoswap.w a1, a2, (a0)
+        (0x20c5_25af, AmoKind::Xor), // amoxor.w a1, a2, (a0)
+        (0x40c5_25af, AmoKind::Or), // amoor.w a1, a2, (a0)
+        (0x60c5_25af, AmoKind::And), // amoand.w a1, a2, (a0)
+        (0x80c5_25af, AmoKind::Min), // amomin.w a1, a2, (a0)
+        (0xa0c5_25af, AmoKind::Max), // amomax.w a1, a2, (a0)
+        (0xc0c5_25af, AmoKind::Minu), // amominu.w a1, a2, (a0)
+        (0xe0c5_25af, AmoKind::Maxu), // amomaxu.w a1, a2, (a0)
+    ] {
+        assert_pair(&rt, word, Insn::Amo { kind, rd, rs1, rs2 });
+    }
+    assert_pair(&rt, 0x1005_22af, Insn::Lr { rd: 5, rs1: 10 }); // lr.w t0, (a0)
+    let (rd, rs1, rs2) = (6, 10, 7);
+    assert_pair(&rt, 0x1875_232f, Insn::Sc { rd, rs1, rs2 }); // sc.w t1, t2, (a0)
+}
 
 /// Words that mean nothing here.
 const NOTHING: [u32; 43] = [
@@ -591,13 +194,23 @@ const NOTHING: [u32; 43] = [
 ];
 
 #[test]
-fn words_of_the_listing(rt: HostRuntime) {
-    for (word, insn) in PLAIN {
+fn free_bits_and_other_words(rt: HostRuntime) {
+    let (rd, rs1, rs2) = (6, 10, 7);
+    for (word, insn) in [
+        (0x8330_000f, Insn::Fence), // fence.tso
+        (0x0100_000f, Insn::Fence), // pause
+        (0x0ff5_058f, Insn::Fence), // fence with rd and rs1
+        (0x1405_22af, Insn::Lr { rd: 5, rs1 }), // lr.w.aq t0, (a0)
+        (0x1605_22af, Insn::Lr { rd: 5, rs1 }), // lr.w.aqrl t0, (a0)
+        (0x1a75_232f, Insn::Sc { rd, rs1, rs2 }), // sc.w.rl t1, t2, (a0)
+    ] {
         assert_eq!(rt; decode(word), Some(insn), "decoding {word:08x}");
-        assert!(rt; fits(insn), "fitting {word:08x}");
-        assert_eq!(rt; encode(insn), word, "encoding {word:08x}");
     }
-    for (word, insn) in FREE {
+    for (word, kind, rd, rs1, rs2) in [
+        (0x0c63_a2af, AmoKind::Swap, 5, 7, 6), // amoswap.w.aq t0, t1, (t2)
+        (0x06c5_25af, AmoKind::Add, 11, 10, 12), // amoadd.w.aqrl a1, a2, (a0)
+    ] {
+        let insn = Insn::Amo { kind, rd, rs1, rs2 };
         assert_eq!(rt; decode(word), Some(insn), "decoding {word:08x}");
     }
     for word in NOTHING {
@@ -607,49 +220,33 @@ fn words_of_the_listing(rt: HostRuntime) {
 
 #[test]
 fn what_does_not_fit(rt: HostRuntime) {
+    let (rd, rs1, rs2) = (1, 1, 1);
+    let (kind, imm) = (BranchKind::Beq, -4098);
+    let branch = Insn::Branch {
+        kind,
+        rs1,
+        rs2,
+        imm,
+    };
+    let (kind, imm) = (LoadKind::Lw, -2049);
+    let load = Insn::Load { kind, rd, rs1, imm };
+    let (kind, rs2) = (AmoKind::Add, 32);
+    let add = Insn::Amo { kind, rd, rs1, rs2 };
+    let (kind, imm) = (ImmKind::Srai, 32);
+    let right = Insn::Imm { kind, rd, rs1, imm };
+    let (kind, imm) = (ImmKind::Slli, -1);
+    let left = Insn::Imm { kind, rd, rs1, imm };
     for insn in [
         Insn::Lui { rd: 32, imm: 0 },
-        Insn::Lui { rd: 1, imm: 0x1800 },
-        Insn::Jal { rd: 1, imm: 3 },
-        Insn::Jal {
-            rd: 1,
-            imm: 1_048_576,
-        },
-        Insn::Jalr {
-            rd: 1,
-            rs1: 1,
-            imm: 2048,
-        },
-        Insn::Branch {
-            kind: BranchKind::Beq,
-            rs1: 0,
-            rs2: 0,
-            imm: -4098,
-        },
-        Insn::Load {
-            kind: LoadKind::Lw,
-            rd: 1,
-            rs1: 1,
-            imm: -2049,
-        },
-        Insn::Imm {
-            kind: ImmKind::Srai,
-            rd: 1,
-            rs1: 1,
-            imm: 32,
-        },
-        Insn::Imm {
-            kind: ImmKind::Slli,
-            rd: 1,
-            rs1: 1,
-            imm: -1,
-        },
-        Insn::Amo {
-            kind: AmoKind::Add,
-            rd: 1,
-            rs1: 1,
-            rs2: 32,
-        },
+        Insn::Lui { rd, imm: 0x1800 },
+        Insn::Jal { rd, imm: 3 },
+        Insn::Jal { rd, imm: 1_048_576 },
+        Insn::Jalr { rd, rs1, imm: 2048 },
+        branch,
+        load,
+        add,
+        right,
+        left,
     ] {
         assert!(rt; !fits(insn), "fitting {insn:?}");
     }
