@@ -1,5 +1,5 @@
 -- What the ended actors of a run leave together: the part of each core, and the output (this project's own).
-use Rattle.std.specs.Prelude.{◌≡◌, ◌×◌, ℕ, ◌+◌, ◌<◌, IsSome, List, length, map, slice_get, slice_index, Some, All}
+use Rattle.std.specs.Prelude.{◌≡◌, ℕ, ◌+◌, ◌<◌, IsSome, List, length, map, slice_get, slice_index, Some, All}
 use Rattle.record_lane.specs.declared.record.Record.{Record}
 use Rattle.record_lane.specs.declared.reply.Reply.{Reply}
 use Rattle.ticket_table.specs.declared.change.Change.{Change}
@@ -46,13 +46,13 @@ abbrev pub StandsIn : List ℕ → Piece → Type 0
 StandsIn out piece = (k : ℕ) → k < length piece.bytes → slice_index out (piece.place + k) ≡ slice_index piece.bytes k
 
 -- every core's part, over two histories of the tables, and an output as long as its word says, in which each piece stands
-pub record AreAssembled (s : Setup) (memory tags : TableSeen) (drawn served : List Change) (cores : List CoreLeft) (out : List ℕ) : Type 0 where
+pub record AreAssembled (s : Setup) (memory tags : TableSeen) (drawn served : List Change) (parts : List CoreLeft) (out : List ℕ) : Type 0 where
   pub setup : IsSetup s
   pub tables : AreTables s memory tags
   pub memory_history : IsHistory memory.basis drawn
   pub tags_history : IsHistory tags.basis served
-  pub count : length cores ≡ core_count s
-  pub cores : (core : ℕ) (left : CoreLeft) → slice_get cores core ≡ Some left
+  pub count : length parts ≡ core_count s
+  pub cores : (core : ℕ) (left : CoreLeft) → slice_get parts core ≡ Some left
     → IsCoreLeft s memory tags core (of_caller core drawn) (of_caller core served) left × All (StandsIn out) left.claims
   pub size : length out ≡ left_at (slice_index memory.basis.first OUTPUT_WORD) OUTPUT_WORD drawn
 

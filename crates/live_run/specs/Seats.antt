@@ -15,16 +15,16 @@ use Rattle.tag_actor.specs.Seen.{TagActorSeen}
 use Rattle.tag_actor.specs.Turns.{AreOf as AreOfTagger}
 
 -- the data words are those of the setup's image, the tags of as many words are 0, and each table has a caller for each core and the setup's limit
-pub record AreTables (s : Setup) (memory tags : TableSeen) : Type 0 where
-  pub memory : memory.basis ≡ record { terms = record { role = Draw; limit = s.limit; callers = core_count s }; first = first_words s.program.layout }
-  pub tags : tags.basis ≡ record { terms = record { role = Serve; limit = s.limit; callers = core_count s }; first = replicate (words_of s.program.layout) 0 }
+pub record AreTables (s : Setup) (data_table tag_table : TableSeen) : Type 0 where
+  pub memory : data_table.basis ≡ record { terms = record { role = Draw; limit = s.limit; callers = core_count s }; first = first_words s.program.layout }
+  pub tags : tag_table.basis ≡ record { terms = record { role = Serve; limit = s.limit; callers = core_count s }; first = replicate (words_of s.program.layout) 0 }
 
 -- one core of the setup, and the tag actor that follows it
-pub record IsSeat (s : Setup) (memory tags : TableSeen) (core : ℕ) (hart : Hart) (follower : TagActorSeen) (items : Ring Record) (replies : Lane Reply) : Type 0 where
+pub record IsSeat (s : Setup) (memory tags : TableSeen) (place : ℕ) (hart : Hart) (follower : TagActorSeen) (items : Ring Record) (replies : Lane Reply) : Type 0 where
   pub budget : hart.budget ≡ s.budget
-  pub core : hart.core ≡ core
+  pub core : hart.core ≡ place
   pub policy : follower.policy ≡ s.policy
-  pub caller : follower.pass.caller ≡ core
+  pub caller : follower.pass.caller ≡ place
   pub hart_of : AreOfHart hart s.program memory items replies
   pub follower_of : AreOfTagger tags items replies follower
 
@@ -39,6 +39,6 @@ pub record AreSeats (s : Setup) (memory tags : TableSeen) (harts : List Hart) (f
     → IsSeat s memory tags core hart follower ring lane
 
 -- every actor has ended
-pub record HaveEnded (harts : List Hart) (followers : List TagActorSeen) : Type 0 where
-  pub harts : (core : ℕ) (hart : Hart) → slice_get harts core ≡ Some hart → HasEnded hart
-  pub followers : (core : ℕ) (follower : TagActorSeen) → slice_get followers core ≡ Some follower → follower.ended ≡ true
+pub record HaveEnded (all_harts : List Hart) (all_followers : List TagActorSeen) : Type 0 where
+  pub harts : (core : ℕ) (hart : Hart) → slice_get all_harts core ≡ Some hart → HasEnded hart
+  pub followers : (core : ℕ) (follower : TagActorSeen) → slice_get all_followers core ≡ Some follower → follower.ended ≡ true
