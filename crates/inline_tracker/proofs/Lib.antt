@@ -4,3 +4,4 @@ pub mod Standing
 pub mod Running
 pub mod Beginning
 pub mod Finishing
+pub mod Walked

@@ -1,4 +1,6 @@
 pub mod Outcomes
+pub mod Walked
+pub mod Orders
 pub mod Seen
 pub mod Cells
 pub mod Seats

@@ -6,6 +6,7 @@ ghost use Rattle.inline_tracker.specs.Seats.{HaveEnded, AreOver};
 
 use crate::finished::{CoreOutcome, Finished};
 use crate::run::Run;
+use crate::run_order::RunOrder;
 use crate::seat::Seat;
 use crate::setup::Setup;
 use bounded_list::BoundedList;
@@ -58,7 +59,7 @@ pub(crate) fn finished_run(setup: &Setup, run: Run) -> Finished
     } = run;
     take_cores(seats, &mut logs, &mut outcomes);
     Finished {
-        order,
+        order: RunOrder::Listed(order),
         given: 0,
         logs,
         outcomes,

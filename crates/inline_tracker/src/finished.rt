@@ -1,9 +1,11 @@
 ghost use Rattle.std.specs.Prelude.{◌≡◌, ◌+◌, ◌<◌, ◌≤◌, ◌^◌, length, slice_get, Some, IfSome, IfNone};
 ghost use Rattle.machine.specs.Outcomes.{class_of};
 
+use crate::run_order::{RunOrder, units_of};
+use crate::setup::Setup;
 use crate::status::class_of_outcomes;
 use bounded_list::BoundedList;
-use order_core::{Bytes, CoreLog, Order};
+use order_core::{Bytes, CoreLog, Walk};
 use record_lane::{Notes, Trap};
 use std::marker::Model;
 use syscall_drain::End;
@@ -17,10 +19,11 @@ pub struct CoreOutcome {
     pub notes: Notes,
 }
 
-/// A finished run: the order of its units, the log and the outcome of each core, and the guest's output.
+/// A finished run: the order of its units, the log and the outcome of each core, and the guest's output. Its order is kept as a
+/// list, or walked along its logs.
 #[derive(Drop)]
 pub struct Finished {
-    pub(crate) order: Order,
+    pub(crate) order: RunOrder,
     pub(crate) given: usize,
     pub(crate) logs: BoundedList<CoreLog>,
     pub(crate) outcomes: BoundedList<CoreOutcome>,
@@ -28,40 +31,77 @@ pub struct Finished {
 }
 
 impl Model for Finished {
-    ghost use Rattle.std.specs.Prelude.{◌≤◌, map, length};
+    ghost use Rattle.std.specs.Prelude.{map};
+    ghost use Rattle.order_core.specs.Logs.{logs_of};
     ghost use Rattle.inline_tracker.specs.Seen.{FinishedSeen};
     ghost use Rattle.inline_tracker.specs.Outcomes.{outcome_summary};
+    ghost use Rattle.inline_tracker.specs.Orders.{order_in, IsOrderAt};
 
     ghost Value = { FinishedSeen };
 
     ghost view = { λ finished. record {
       run = record {
-        order = finished.order.items;
-        logs = map (λ log. log.items) finished.logs.items;
+        order = order_in (logs_of finished.logs.items) finished.order;
+        logs = logs_of finished.logs.items;
         cores = map outcome_summary finished.outcomes.items;
         output = finished.output.items;
       };
       given = finished.given;
     } };
 
-    ghost invariant = { λ finished. finished.given ≤ length finished.order.items };
+    ghost invariant = { λ finished. IsOrderAt (logs_of finished.logs.items) finished.given finished.order };
 }
 
 impl Finished {
     ghost use Rattle.inline_tracker.specs.Outcomes.{outcome_summary};
     ghost use Rattle.inline_tracker.specs.Seen.{next_core};
+    ghost use Rattle.inline_tracker.specs.Walked.{walked_run};
+    ghost use Rattle.order_core.specs.Logs.{logs_of};
+    ghost use Rattle.order_core.specs.Walk.{FitsWalk};
+    ghost use Rattle.order_core.specs.WalkCalls.{IsAtStart};
+    ghost use Rattle.machine.specs.FinishedRuns.{IsFinishedRun};
+
+    /// The run that the actors of a setup leave. Its order is the canonical merge of its logs, which is walked and never listed.
+    pub fn of_walk(
+        setup: &Setup,
+        walk: Walk,
+        logs: BoundedList<CoreLog>,
+        outcomes: BoundedList<CoreOutcome>,
+        output: Bytes,
+    ) -> Finished
+        requires start { IsAtStart walk }
+        requires fits { FitsWalk walk (logs_of logs.items) }
+        requires finished { IsFinishedRun setup.now (walked_run logs.items outcomes.items output.items) }
+        ensures run { result.run ≡ walked_run logs.items outcomes.items output.items }
+        ensures given { result.given ≡ 0 }
+    {
+        // The ranges of the setup bound the count of units.
+        let _ranges = setup.guest();
+        let units = units_of(logs.as_slice());
+        Finished {
+            order: RunOrder::Walked { walk, units },
+            given: 0,
+            logs,
+            outcomes,
+            output,
+        }
+    }
 
     /// How many units it has.
     pub fn units(&self) -> u32
         ensures { result ≡ length self.now.run.order }
     {
-        self.order.len() as u32
+        match &self.order {
+            RunOrder::Listed(order) => order.len() as u32,
+            RunOrder::Walked { units, .. } => *units,
+        }
     }
 
     /// Goes back to the first place of its order.
     pub fn rewind(&mut self)
         ensures { self.new ≡ record self.old { given = 0 } }
     {
+        self.order.rewind();
         self.given = 0;
     }
 
@@ -72,7 +112,7 @@ impl Finished {
         ensures same { IfNone result (self.new ≡ self.old) }
         ensures small { self.new.given < 2 ^ 32 }
     {
-        let core = *self.order.as_slice().get(self.given)?;
+        let core = self.order.next(self.logs.as_slice(), self.given)?;
         self.given += 1;
         Some(core)
     }

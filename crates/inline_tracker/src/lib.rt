@@ -8,6 +8,7 @@ pub mod laws;
 mod memory;
 mod opening;
 mod run;
+mod run_order;
 mod seat;
 mod setup;
 mod status;
