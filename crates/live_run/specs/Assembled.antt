@@ -53,7 +53,7 @@ pub record AreAssembled (s : Setup) (memory tags : TableSeen) (drawn served : Li
   pub tags_history : IsHistory tags.basis served
   pub count : length parts ≡ core_count s
   pub cores : (core : ℕ) (left : CoreLeft) → slice_get parts core ≡ Some left
-    → IsCoreLeft s memory tags core (of_caller core drawn) (of_caller core served) left × All (StandsIn out) left.claims
+      → IsCoreLeft s memory tags core (of_caller core drawn) (of_caller core served) left × All (StandsIn out) left.claims
   pub size : length out ≡ left_at (slice_index memory.basis.first OUTPUT_WORD) OUTPUT_WORD drawn
 
 -- the finished run of these parts, in the order of the canonical merge of their logs

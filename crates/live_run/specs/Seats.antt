@@ -35,8 +35,8 @@ pub record AreSeats (s : Setup) (memory tags : TableSeen) (harts : List Hart) (f
   pub item_count : length items ≡ core_count s
   pub reply_count : length replies ≡ core_count s
   pub seats : (core : ℕ) (hart : Hart) (follower : TagActorSeen) (ring : Ring Record) (lane : Lane Reply)
-    → slice_get harts core ≡ Some hart → slice_get followers core ≡ Some follower → slice_get items core ≡ Some ring → slice_get replies core ≡ Some lane
-    → IsSeat s memory tags core hart follower ring lane
+      → slice_get harts core ≡ Some hart → slice_get followers core ≡ Some follower → slice_get items core ≡ Some ring → slice_get replies core ≡ Some lane
+      → IsSeat s memory tags core hart follower ring lane
 
 -- every actor has ended
 pub record HaveEnded (all_harts : List Hart) (all_followers : List TagActorSeen) : Type 0 where
