@@ -1,3 +1,4 @@
 pub mod Seats
 pub mod Assembled
 pub mod Pairs
+pub mod AssembledLaws
