@@ -5,3 +5,4 @@ pub mod Merged
 pub mod WordHistories
 pub mod UnitParts
 pub mod CoreUnits
+pub mod Keeping

@@ -2,3 +2,8 @@
 #![tactic(auto)]
 
 mod pair;
+mod actor;
+mod drive;
+mod objects;
+mod threads;
+mod work;
