@@ -6,3 +6,4 @@ pub mod WordHistories
 pub mod UnitParts
 pub mod CoreUnits
 pub mod Keeping
+pub mod Assembling

@@ -1,14 +1,13 @@
 -- A history of the words' payloads is a legal merge of the logs of the cores that made it.
-use Rattle.std.proofs.Common.{◌≡◌, ◌≢◌, ◌⊎◌, ℕ, zero, suc, ◌+◌, ◌<◌, ◌≤◌, Bool, cond, eqb, List, [], ◌∷◌, ◌++◌, length, map, Option, Some, None, refl, sym, ap, ap₂, subst, ◌∙◌, inl, inr, arith, eq-eqb, ne_eqb, add-one, option_to_list}
+use Rattle.std.proofs.Common.{◌≡◌, ◌≢◌, ◌⊎◌, ℕ, zero, suc, ◌+◌, ◌<◌, ◌≤◌, Bool, cond, eqb, List, [], ◌∷◌, ◌++◌, length, map, Option, Some, None, refl, sym, ap, subst, ◌∙◌, inl, inr, arith, eq-eqb, ne_eqb, add-one, option_to_list}
 use Rattle.std.specs.Prelude.{All}
 use Rattle.std.specs.List.{range_with_len}
 use Rattle.std.proofs.lemmas.Bool.{cases_eq}
-use Rattle.std.proofs.lemmas.List.{length-map}
 use Rattle.std.proofs.lemmas.List.FromFn.{length-range_with_len}
-use Rattle.std.proofs.lemmas.List.Elements.{All-head, All-tail}
+use Rattle.std.proofs.lemmas.List.Elements.{All-nil, All-cons, All-head, All-tail}
 use Rattle.ticket_table.specs.declared.change.Terms.{Terms}
 use Rattle.ticket_table.specs.declared.change.Change.{Change}
-use Rattle.ticket_table.specs.History.{Basis, IsHistory, of_word, of_caller, count_at}
+use Rattle.ticket_table.specs.History.{Basis, IsHistory, of_word, of_caller, count_at, made}
 use Rattle.ticket_table.proofs.Histories.{numbers_in_order}
 use Rattle.syscall_drain.specs.Programs.{Program}
 use Rattle.syscall_drain.specs.Locals.{Local}
@@ -19,12 +18,13 @@ use Rattle.syscall_drain.specs.declared.ask.Answer.{Answer}
 use Rattle.syscall_drain.specs.declared.ask.Answer.TheVariants.{Nothing, Taken as Took, Reply as Replied}
 use Rattle.order_core.specs.declared.entry.Access.{Access}
 use Rattle.order_core.specs.declared.entry.Entry.{Entry}
-use Rattle.order_core.specs.Logs.{log_of}
+use Rattle.order_core.specs.Logs.{log_of, TouchesBelow}
 use Rattle.order_core.specs.Marked.{part_of, number_at, numbers_by, numbers_of}
 use Rattle.order_core.specs.LegalMerge.{CountUpFrom}
 use Rattle.order_core.specs.History.{CoreAccess, touches_of, FitsLogs, ExtendsToMerge}
 use Rattle.order_core.proofs.HistoryLaws.{history_merges, numbers_in_history_of}
 use Rattle.actor_lists.specs.Walked.{access_by, draw_by, draws_by, log_by, walked}
+use Rattle.live_run.proofs.WordValues.{front_all, back_all}
 
 -- the access of a change, and with the core that made it
 abbrev pub access_in : Change → Access
@@ -82,6 +82,27 @@ draws_are terms caller program budget l [] = refl
 draws_are terms caller program budget l (answer ∷ answers) =
     unit_touch terms caller (next_ask program l) answer (draws_by terms caller program budget (answered program budget l answer) answers)
     (touches_of (log_by program budget (answered program budget l answer) answers)) (draws_are terms caller program budget (answered program budget l answer) answers)
+
+-- an access is to the word of its change
+unit_below : (words : ℕ) (terms : Terms) (caller : ℕ) (ask : CoreAsk) (answer : Answer) → All (λ e. e.word < words) (draw_by terms caller ask answer) → TouchesBelow words (record { touch = access_by ask answer })
+unit_below words terms caller (Touches word op) (Took t) all = All-head (λ (e : Change). e.word < words) (made terms caller word t.number op t.old) [] all
+unit_below words terms caller AsksNothing answer all = tt
+unit_below words terms caller (Touches word op) Nothing all = tt
+unit_below words terms caller (Touches word op) (Replied reply) all = tt
+unit_below words terms caller (Meets item) answer all = tt
+unit_below words terms caller Ended answer all = tt
+
+pub log_below : (words : ℕ) (terms : Terms) (caller : ℕ) (program : Program) (budget : ℕ) (l : Local) (answers : List Answer)
+    → All (λ e. e.word < words) (draws_by terms caller program budget l answers) → All (TouchesBelow words) (log_by program budget l answers)
+unfolding walked
+log_below words terms caller program budget l [] all = All-nil (TouchesBelow words)
+log_below words terms caller program budget l (answer ∷ answers) all =
+    let next : Local = answered program budget l answer in
+    let here : List Change = draw_by terms caller (next_ask program l) answer in
+    let later : List Change = draws_by terms caller program budget next answers in
+    All-cons (TouchesBelow words) (record { touch = access_by (next_ask program l) answer }) (log_by program budget next answers)
+    (unit_below words terms caller (next_ask program l) answer (front_all (λ (e : Change). e.word < words) here later all))
+    (log_below words terms caller program budget next answers (back_all (λ (e : Change). e.word < words) here later all))
 
 -- ---- one word's numbers
 

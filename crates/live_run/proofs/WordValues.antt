@@ -12,7 +12,7 @@ use Rattle.ticket_table.specs.History.{Basis, IsHistory, MayFollow, count_at, le
 use Rattle.ticket_table.proofs.Histories.{earlier, by_steps, count_at_same, left_at_same, left_at_other}
 
 -- the value of this word after its first k changes, of its first value
-pub value_after : ℕ → ℕ → ℕ → List Change → ℕ
+unfoldable pub value_after : ℕ → ℕ → ℕ → List Change → ℕ
 value_after first word zero changes = first
 value_after first word (suc k) [] = first
 value_after first word (suc k) (e ∷ changes) = if e.word == word then value_after e.new word k changes else value_after first word (suc k) changes

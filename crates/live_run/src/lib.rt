@@ -7,3 +7,4 @@ mod drive;
 mod objects;
 mod threads;
 mod work;
+pub mod laws;
