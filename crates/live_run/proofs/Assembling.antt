@@ -1,5 +1,5 @@
 -- The parts that the ended actors of a run leave together are a finished run of its setup.
-use Rattle.std.proofs.Common.{◌≡◌, ◌⊎◌, ℕ, ◌+◌, ◌<◌, ◌≤◌, List, [], ◌∷◌, ◌++◌, length, map, IsSome, Option, Some, None, refl, sym, ap, ap₂, subst, ◌∙◌, inl, inr, arith, append-nil, eqb}
+use Rattle.std.proofs.Common.{◌≡◌, ◌⊎◌, ℕ, ◌<◌, ◌≤◌, List, [], ◌∷◌, length, map, IsSome, Option, Some, refl, sym, ap, ap₂, subst, ◌∙◌, inl, inr, arith, append-nil, eqb}
 use Rattle.std.specs.Prelude.{All, slice_get, slice_index, slice_index_or}
 use Rattle.std.specs.List.{range_with_len}
 use Rattle.std.proofs.lemmas.Bool.{cases_lt}
@@ -12,14 +12,13 @@ use Rattle.record_lane.specs.declared.note.CallNote.{CallNote}
 use Rattle.record_lane.specs.declared.reply.Trap.{Trap}
 use Rattle.tag_policy.specs.Memory.{tags_below}
 use Rattle.tag_registers.specs.Tags.{Tags, no_tags}
-use Rattle.tag_registers.specs.Folds.{Given, tag_accesses, tags_fold}
+use Rattle.tag_registers.specs.Folds.{Given, tag_accesses}
 use Rattle.ticket_table.specs.declared.change.Terms.{Terms}
 use Rattle.ticket_table.specs.declared.change.Change.{Change}
-use Rattle.ticket_table.specs.History.{Basis, IsHistory, of_caller, count_at, left_at}
+use Rattle.ticket_table.specs.History.{Basis, of_caller, count_at, left_at}
 use Rattle.ticket_table.specs.Passes.{TableSeen}
 use Rattle.syscall_drain.specs.Locals.{Local, opening_local}
 use Rattle.syscall_drain.specs.Runs.{local_after}
-use Rattle.syscall_drain.specs.Pieces.{Piece}
 use Rattle.syscall_drain.specs.declared.end.End.{End}
 use Rattle.syscall_drain.specs.declared.ask.Answer.{Answer}
 use Rattle.order_core.specs.declared.entry.Entry.{Entry}
@@ -27,18 +26,18 @@ use Rattle.order_core.specs.Logs.{log_of, TouchesBelow}
 use Rattle.order_core.specs.Marked.{numbers_of}
 use Rattle.order_core.specs.History.{touches_of, ExtendsToMerge}
 use Rattle.order_core.specs.CanonicalMerge.{canonical}
-use Rattle.actor_lists.specs.Walked.{IsTold, HasRun, draws_by, log_by}
-use Rattle.actor_lists.specs.Folded.{IsFolded, change_by}
+use Rattle.actor_lists.specs.Walked.{IsTold, draws_by, log_by}
+use Rattle.actor_lists.specs.Folded.{change_by}
 use Rattle.machine.specs.Setups.{Setup, core_count}
 use Rattle.machine.specs.States.{Core, opening_core}
 use Rattle.machine.specs.Outcomes.{Summary, summary_of}
-use Rattle.machine.specs.FinishedRuns.{FinishedRun, IsFinishedRun}
+use Rattle.machine.specs.FinishedRuns.{IsFinishedRun}
 use Rattle.machine.proofs.Parts.{WordParts, IsPartedRun, core_of_lists}
 use Rattle.machine.proofs.Joining.{CoreParts, IsPieceOf}
 use Rattle.machine.proofs.Finishing.{last_core, AreFinished, finished_run}
 use Rattle.live_run.specs.Assembled.{CoreLeft, IsCoreLeft, AreAssembled, StandsIn, finished_of}
 use Rattle.live_run.specs.AssembledLaws.{AssembledRun, AssembledMerge, CanBeMerged}
-use Rattle.live_run.proofs.WordValues.{value_after, value_at_front, KeepsBelow, StandsIn as StandsInHistory, all_stand}
+use Rattle.live_run.proofs.WordValues.{value_after, value_at_front, KeepsBelow, IsChangeIn, all_changes}
 use Rattle.live_run.proofs.WordHistories.{draw_terms, serve_terms, words_along, IsDrawn, IsServed, first_at, all_drawn, all_served, fold_keeps, all_by_callers}
 use Rattle.live_run.proofs.Merged.{access_in, core_access, caller_past, draws_are, log_below, merged, merged_count}
 use Rattle.live_run.proofs.CoreUnits.{AreUnits, GoAlong, units_along}
@@ -104,16 +103,16 @@ module _ (s : Setup) (memory tags : TableSeen) (drawn served : List Change) (cor
 
   served_callers : All (λ e. e.caller < core_count s) served
   served_callers =
-      All-weaker (StandsInHistory tags.basis served) (λ e. e.caller < core_count s)
-      (λ e stands. subst (λ (terms : Terms). e.caller < terms.callers) tags_terms stands.caller) served (all_stand tags.basis served parts.tags_history)
+      All-weaker (IsChangeIn tags.basis served) (λ e. e.caller < core_count s)
+      (λ e stands. subst (λ (terms : Terms). e.caller < terms.callers) tags_terms stands.caller) served (all_changes tags.basis served parts.tags_history)
 
   served_all : All (IsServed s served) served
   served_all =
       all_served s memory tags served parts.tables parts.tags_history
       (all_by_callers (KeepsBelow (tags_below s.policy.version)) (core_count s) served served_callers
       (λ c below.
-          subst (All (KeepsBelow (tags_below s.policy.version))) (sym (served_by c (left_by c below)))
-          (fold_keeps s.policy (serve_terms s) c no_tags ((left_by c below).is).givens)))
+      subst (All (KeepsBelow (tags_below s.policy.version))) (sym (served_by c (left_by c below)))
+      (fold_keeps s.policy (serve_terms s) c no_tags ((left_by c below).is).givens)))
 
   -- ---- each core along them
 
@@ -239,6 +238,7 @@ module _ (s : Setup) (memory tags : TableSeen) (drawn served : List Change) (cor
 
   can_be_merged : CanBeMerged s (map (λ left. left.log) cores)
   can_be_merged = record {
+    count = length-map cores (λ (left : CoreLeft). left.log) ∙ parts.count;
     merge = (merge.marked, merge.legal);
     words = λ c d within. log_touches c d (omega (arith, parts.count, length-map cores (λ (left : CoreLeft). left.log)));
   }

@@ -1,9 +1,8 @@
 -- All units of a core over the two histories of a run, along its answers and its records together.
-use Rattle.std.proofs.Common.{◌≡◌, ℕ, List, [], ◌∷◌, ◌++◌, map, refl, sym, ap, ap₂, ◌∙◌, subst}
+use Rattle.std.proofs.Common.{◌≡◌, ℕ, List, [], ◌∷◌, ◌++◌, map, refl, ap₂, subst}
 use Rattle.std.specs.Prelude.{All}
 use Rattle.std.proofs.lemmas.List.Elements.{All-head, All-tail}
 use Rattle.std.proofs.lemmas.List.{map-append}
-use Rattle.record_lane.specs.declared.record.Record.{Record}
 use Rattle.record_lane.specs.declared.note.CallNote.{CallNote}
 use Rattle.tag_registers.specs.Tags.{Tags, tags_after}
 use Rattle.tag_registers.specs.Folds.{Given, TagAccess, access_of, folded, tag_accesses, replies}

@@ -1,5 +1,5 @@
 -- A history of the words' payloads is a legal merge of the logs of the cores that made it.
-use Rattle.std.proofs.Common.{◌≡◌, ◌≢◌, ◌⊎◌, ℕ, zero, suc, ◌+◌, ◌<◌, ◌≤◌, Bool, cond, eqb, List, [], ◌∷◌, ◌++◌, length, map, Option, Some, None, refl, sym, ap, subst, ◌∙◌, inl, inr, arith, eq-eqb, ne_eqb, add-one, option_to_list}
+use Rattle.std.proofs.Common.{◌≡◌, ◌≢◌, ◌⊎◌, ℕ, zero, suc, ◌+◌, ◌<◌, ◌≤◌, Bool, cond, List, [], ◌∷◌, ◌++◌, length, map, Some, refl, sym, ap, subst, ◌∙◌, inl, inr, arith, eq-eqb, ne_eqb, add-one, option_to_list}
 use Rattle.std.specs.Prelude.{All}
 use Rattle.std.specs.List.{range_with_len}
 use Rattle.std.proofs.lemmas.Bool.{cases_eq}
@@ -19,7 +19,7 @@ use Rattle.syscall_drain.specs.declared.ask.Answer.TheVariants.{Nothing, Taken a
 use Rattle.order_core.specs.declared.entry.Access.{Access}
 use Rattle.order_core.specs.declared.entry.Entry.{Entry}
 use Rattle.order_core.specs.Logs.{log_of, TouchesBelow}
-use Rattle.order_core.specs.Marked.{part_of, number_at, numbers_by, numbers_of}
+use Rattle.order_core.specs.Marked.{part_of, numbers_by, numbers_of}
 use Rattle.order_core.specs.LegalMerge.{CountUpFrom}
 use Rattle.order_core.specs.History.{CoreAccess, touches_of, FitsLogs, ExtendsToMerge}
 use Rattle.order_core.proofs.HistoryLaws.{history_merges, numbers_in_history_of}

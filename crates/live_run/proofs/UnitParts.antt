@@ -1,5 +1,5 @@
 -- One unit of a core over the two histories of a run: from what it drew, its record and what its tag actor did with the record.
-use Rattle.std.proofs.Common.{◌≡◌, ◌⊎◌, ℕ, suc, ◌<◌, ◌≤◌, Bool, true, false, cond, nat_le, nat_lt, if◌then◌else◌, List, [], ◌∷◌, ◌++◌, map, Option, Some, None, refl, sym, ap, ap₂, subst, ◌∙◌, inl, inr, arith}
+use Rattle.std.proofs.Common.{◌≡◌, ℕ, Bool, false, nat_le, nat_lt, if◌then◌else◌, List, [], ◌∷◌, ◌++◌, map, refl, sym, ap, subst, ◌∙◌, arith}
 use Rattle.std.specs.Prelude.{All}
 use Rattle.std.proofs.lemmas.Bool.Decides.{nat_tests}
 use Rattle.std.proofs.lemmas.List.Elements.{All-head}
@@ -10,7 +10,6 @@ use Rattle.record_lane.specs.declared.record.MeetKind.{MeetKind}
 use Rattle.record_lane.specs.declared.record.Record.{Record}
 use Rattle.record_lane.specs.declared.record.Record.TheVariants.{Quiet as QuietRecord, Blank as BlankRecord, Touch as TouchRecord, Meet as MeetRecord, Back, End as EndRecord}
 use Rattle.record_lane.specs.declared.reply.Reply.{Reply}
-use Rattle.record_lane.specs.declared.note.CallNote.{CallNote}
 use Rattle.tag_policy.specs.Rules.{PolicySeen}
 use Rattle.tag_registers.specs.Files.{is_touch}
 use Rattle.tag_registers.specs.Tags.{Tags, tags_after, word_op, word_tag, reply_of}

@@ -1,5 +1,5 @@
 -- The two histories of a run as its words' payloads and tags, and what each change of a core says of them.
-use Rattle.std.proofs.Common.{◌≡◌, ◌≢◌, ◌⊎◌, ℕ, zero, suc, ◌+◌, ◌<◌, ◌≤◌, List, [], ◌∷◌, ◌++◌, length, map, refl, sym, ap, subst, ◌∙◌, inl, inr, arith}
+use Rattle.std.proofs.Common.{◌≡◌, ◌≢◌, ◌⊎◌, ℕ, zero, suc, ◌<◌, List, [], ◌∷◌, map, refl, sym, subst, inl, inr, arith}
 use Rattle.std.specs.Prelude.{All, slice_index, replicate}
 use Rattle.std.proofs.lemmas.Bool.{cases_eq}
 use Rattle.std.proofs.lemmas.List.FromFn.{get_or-map-range_with_len}
@@ -26,7 +26,7 @@ use Rattle.actor_lists.specs.Folded.{change_by}
 use Rattle.machine.specs.Setups.{Setup, core_count}
 use Rattle.machine.proofs.Parts.{WordParts}
 use Rattle.live_run.specs.Seats.{AreTables}
-use Rattle.live_run.proofs.WordValues.{value_after, IsStep, StandsIn, all_stand, KeepsBelow, olds_below}
+use Rattle.live_run.proofs.WordValues.{value_after, IsStep, IsChangeIn, all_changes, KeepsBelow, olds_below}
 use Rattle.live_run.proofs.Merged.{caller_same, caller_other}
 
 -- the terms of the two tables
@@ -54,7 +54,7 @@ pub record IsDrawn (s : Setup) (drawn : List Change) (e : Change) : Type 0 where
 pub first_at : (layout : Layout) (word : ℕ) → word < words_of layout → slice_index (first_words layout) word ≡ first_word layout word
 first_at layout word within = get_or-map-range_with_len (first_word layout) 0 (words_of layout) word word 0 within (omega arith)
 
-drawn_at : (s : Setup) (drawn : List Change) (e : Change) → StandsIn (record { terms = draw_terms s; first = first_words s.program.layout }) drawn e → IsDrawn s drawn e
+drawn_at : (s : Setup) (drawn : List Change) (e : Change) → IsChangeIn (record { terms = draw_terms s; first = first_words s.program.layout }) drawn e → IsDrawn s drawn e
 drawn_at s drawn e stands =
     let within : e.word < words_of s.program.layout = omega (arith, stands.within, first_words_count s.program.layout) in
     record {
@@ -66,8 +66,8 @@ drawn_at s drawn e stands =
 pub all_drawn : (s : Setup) (memory tags : TableSeen) (drawn : List Change) → AreTables s memory tags → IsHistory memory.basis drawn → All (IsDrawn s drawn) drawn
 all_drawn s memory tags drawn tables all =
     let basis : Basis = record { terms = draw_terms s; first = first_words s.program.layout } in
-    All-weaker (StandsIn basis drawn) (IsDrawn s drawn) (λ e stands. drawn_at s drawn e stands) drawn
-    (all_stand basis drawn (subst (λ (b : Basis). IsHistory b drawn) tables.memory all))
+    All-weaker (IsChangeIn basis drawn) (IsDrawn s drawn) (λ e stands. drawn_at s drawn e stands) drawn
+    (all_changes basis drawn (subst (λ (b : Basis). IsHistory b drawn) tables.memory all))
 
 -- ---- tags
 
@@ -88,7 +88,7 @@ some_tags ByteTags = omega arith
 pub all_served : (s : Setup) (memory tags : TableSeen) (served : List Change) → AreTables s memory tags → IsHistory tags.basis served
     → All (KeepsBelow (tags_below s.policy.version)) served → All (IsServed s served) served
 all_served s memory tags served tables all keeps =
-    both served (all_stand basis served history)
+    both served (all_changes basis served history)
     (olds_below basis (tags_below s.policy.version) refl (λ word. subst (λ (n : ℕ). n < tags_below s.policy.version) (sym (zero_at (words_of s.program.layout) word)) (some_tags s.policy.version)) served history keeps)
   where
     basis : Basis
@@ -97,15 +97,15 @@ all_served s memory tags served tables all keeps =
     history : IsHistory basis served
     history = subst (λ (b : Basis). IsHistory b served) tables.tags all
 
-    both : (changes : List Change) → All (StandsIn basis served) changes → All (λ e. e.old < tags_below s.policy.version) changes → All (IsServed s served) changes
+    both : (changes : List Change) → All (IsChangeIn basis served) changes → All (λ e. e.old < tags_below s.policy.version) changes → All (IsServed s served) changes
     both [] stands below = All-nil (IsServed s served)
     both (e ∷ changes) stands below =
         All-cons (IsServed s served) e changes
         (record {
-          step = subst (λ (first : ℕ). IsStep first served e) (zero_at (words_of s.program.layout) e.word) (All-head (StandsIn basis served) e changes stands).step;
+          step = subst (λ (first : ℕ). IsStep first served e) (zero_at (words_of s.program.layout) e.word) (All-head (IsChangeIn basis served) e changes stands).step;
           below = All-head (λ (x : Change). x.old < tags_below s.policy.version) e changes below;
         })
-        (both changes (All-tail (StandsIn basis served) e changes stands) (All-tail (λ (x : Change). x.old < tags_below s.policy.version) e changes below))
+        (both changes (All-tail (IsChangeIn basis served) e changes stands) (All-tail (λ (x : Change). x.old < tags_below s.policy.version) e changes below))
 
 -- ---- the operations of a fold
 

@@ -1,6 +1,6 @@
 -- What a word holds after its first k changes in a history; each change finds and leaves there what it says.
-use Rattle.std.proofs.Common.{◌≡◌, ◌≢◌, ◌⊎◌, ℕ, zero, suc, ◌+◌, ◌<◌, ◌==◌, Bool, true, false, cond, eqb, if◌then◌else◌, List, [], ◌∷◌, ◌++◌, length, refl, sym, ap, subst, ◌∙◌, inl, inr, arith, append_assoc, append-nil, eq-eqb, ne_eqb}
-use Rattle.std.specs.Prelude.{All, slice_index, option_to_list, Some}
+use Rattle.std.proofs.Common.{◌≡◌, ◌≢◌, ◌⊎◌, ℕ, zero, suc, ◌+◌, ◌<◌, ◌==◌, Bool, cond, eqb, if◌then◌else◌, List, [], ◌∷◌, ◌++◌, length, refl, sym, ap, subst, ◌∙◌, inl, inr, arith, append_assoc, eq-eqb, ne_eqb}
+use Rattle.std.specs.Prelude.{All, slice_index, Some}
 use Rattle.std.proofs.lemmas.Bool.{cases_eq}
 use Rattle.std.proofs.lemmas.List.Elements.{All-nil, All-cons, All-head, All-tail, All-pop}
 use Rattle.std.proofs.lemmas.List.Sums.{sum_by-cons}
@@ -81,14 +81,14 @@ pub back_all : {A : Type 0} (P : A → Type 0) (xs ys : List A) → All P (xs ++
 back_all P [] ys all = all
 back_all P (x ∷ xs) ys all = back_all P xs ys (All-tail P x (xs ++ ys) all)
 
--- a change of a history is one that may come next, and a step of its word
-pub record StandsIn (basis : Basis) (history : List Change) (e : Change) : Type 0 where
+-- a change of this history is one of its table's, and a step of its word
+pub record IsChangeIn (basis : Basis) (history : List Change) (e : Change) : Type 0 where
   pub within : e.word < length basis.first
   pub caller : e.caller < basis.terms.callers
   pub step : IsStep (slice_index basis.first e.word) history e
 
-stands_at : (basis : Basis) (history before after : List Change) (e : Change) → IsHistory basis history → history ≡ before ++ e ∷ after → StandsIn basis history e
-stands_at basis history before after e all same =
+change_at : (basis : Basis) (history before after : List Change) (e : Change) → IsHistory basis history → history ≡ before ++ e ∷ after → IsChangeIn basis history e
+change_at basis history before after e all same =
     let next : MayFollow basis before e = all before after e same in
     let first : ℕ = slice_index basis.first e.word in
     let number : suc e.number ≡ count_at e.word (before ++ e ∷ []) = omega (arith, count_at_same e.word before e refl, next.number) in
@@ -107,8 +107,8 @@ stands_at basis history before after e all same =
       };
     }
 
-pub all_stand : (basis : Basis) (history : List Change) → IsHistory basis history → All (StandsIn basis history) history
-all_stand basis history all = all_by_places (StandsIn basis history) [] history (λ before after e same. stands_at basis history before after e all same)
+pub all_changes : (basis : Basis) (history : List Change) → IsHistory basis history → All (IsChangeIn basis history) history
+all_changes basis history all = all_by_places (IsChangeIn basis history) [] history (λ before after e same. change_at basis history before after e all same)
 
 -- ---- values below a bound
 
