@@ -83,10 +83,12 @@ module _ (s : Setup) (memory tags : TableSeen) (drawn served : List Change) (cor
       let some = some_at cores c (omega (arith, parts.count)) in
       record { left = some.0; found = some.1; is = (parts.cores c some.0 some.1).0; claims = (parts.cores c some.0 some.1).1 }
 
-  log_at : (c : ℕ) (by : LeftBy c) → log_of logs c ≡ (by.left).log
-  log_at c by =
-      get_or-map (λ (left : CoreLeft). left.log) cores c by.left [] (slice_get_within cores c by.left by.found)
-      ∙ ap (λ (left : CoreLeft). left.log) (get_or_from_slice_get cores c by.left by.left by.found)
+  -- what each core left of one kind, at place c
+  kind_at : {A : Type 0} (kind : CoreLeft → A) (c : ℕ) (by : LeftBy c) (d : A) → slice_index_or (map kind cores) c d ≡ kind by.left
+  kind_at kind c by d = get_or-map kind cores c by.left d (slice_get_within cores c by.left by.found) ∙ ap kind (get_or_from_slice_get cores c by.left by.left by.found)
+
+  log_at : (c : ℕ) (by : LeftBy c) (d : List Entry) → slice_index_or logs c d ≡ log_by s.program s.budget (opening_local s.program c) (by.is).answers
+  log_at c by d = kind_at (λ (left : CoreLeft). left.log) c by d ∙ ((by.is).run).log_is
 
   drawn_by : (c : ℕ) (by : LeftBy c) → of_caller c drawn ≡ draws_by (draw_terms s) c s.program s.budget (opening_local s.program c) (by.is).answers
   drawn_by c by =
@@ -141,11 +143,10 @@ module _ (s : Setup) (memory tags : TableSeen) (drawn served : List Change) (cor
       let along : GoAlong s drawn served out c (opening_core s c) answers givens = units_along s drawn served out c (opening_core s c) answers givens (units_of c by) in
       let local : (by.is).local ≡ local_after s.program s.budget (opening_local s.program c) answers = ((by.is).run).local_is in
       record {
-        run = subst (IsPartedRun s words (IsPieceOf out) (opening_core s c) answers givens) (sym (log_at c by ∙ ((by.is).run).log_is)) along.run;
+        run = subst (IsPartedRun s words (IsPieceOf out) (opening_core s c) answers givens) (sym (log_at c by [])) along.run;
         ended = subst (λ (l : Local). IsSome l.ending) local (by.is).ended;
         summary = λ d.
-            get_or-map (λ (left : CoreLeft). left.summary) cores c by.left d (slice_get_within cores c by.left by.found)
-            ∙ ap (λ (left : CoreLeft). left.summary) (get_or_from_slice_get cores c by.left by.left by.found)
+            kind_at (λ (left : CoreLeft). left.summary) c by d
             ∙ same_summary (by.left).summary (core_of_lists s (opening_core s c) answers givens)
             ((by.is).ending ∙ ap (λ (l : Local). l.ending) local)
             ((by.is).units ∙ ap (λ (l : Local). l.units) local)
@@ -179,7 +180,7 @@ module _ (s : Setup) (memory tags : TableSeen) (drawn served : List Change) (cor
       let by : LeftBy c = left_by c below in
       ap (map access_in) (drawn_by c by)
       ∙ draws_are (draw_terms s) c s.program s.budget (opening_local s.program c) (by.is).answers
-      ∙ ap touches_of (sym (log_at c by ∙ ((by.is).run).log_is))
+      ∙ ap touches_of (sym (log_at c by []))
   touches_at c (inr past) =
       ap (map access_in)
       (caller_past (core_count s) c drawn (All-weaker (IsDrawn s drawn) (λ e. e.caller < core_count s) (λ e draw. draw.caller) drawn drawn_all) past)
@@ -227,11 +228,7 @@ module _ (s : Setup) (memory tags : TableSeen) (drawn served : List Change) (cor
   log_touches : (c : ℕ) (d : List Entry) → c < core_count s → All (TouchesBelow (words_of s.program.layout)) (slice_index_or logs c d)
   log_touches c d below =
       let by : LeftBy c = left_by c below in
-      let log : slice_index_or logs c d ≡ log_by s.program s.budget (opening_local s.program c) (by.is).answers =
-      get_or-map (λ (left : CoreLeft). left.log) cores c by.left d (slice_get_within cores c by.left by.found)
-      ∙ ap (λ (left : CoreLeft). left.log) (get_or_from_slice_get cores c by.left by.left by.found)
-      ∙ ((by.is).run).log_is in
-      subst (All (TouchesBelow (words_of s.program.layout))) (sym log)
+      subst (All (TouchesBelow (words_of s.program.layout))) (sym (log_at c by d))
       (log_below (words_of s.program.layout) (draw_terms s) c s.program s.budget (opening_local s.program c) (by.is).answers
       (All-weaker (IsDrawn s drawn) (λ e. e.word < words_of s.program.layout) (λ e draw. draw.within)
       (draws_by (draw_terms s) c s.program s.budget (opening_local s.program c) (by.is).answers) (units_of c by).draws))
