@@ -7,3 +7,4 @@ pub mod UnitParts
 pub mod CoreUnits
 pub mod Keeping
 pub mod Assembling
+pub mod Ending

@@ -4,3 +4,4 @@ pub mod Pairs
 pub mod AssembledLaws
 pub mod Places
 pub mod Staying
+pub mod Ends

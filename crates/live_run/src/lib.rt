@@ -1,6 +1,7 @@
 //! A run with a thread for each actor: the cores of a setup and their tag actors.
 #![tactic(auto)]
 
+mod ends;
 mod pair;
 mod actor;
 mod drive;
