@@ -2,7 +2,7 @@
 #![tactic(auto)]
 
 ghost use Rattle.std.specs.Prelude.{◌≡◌, ◌+◌, ◌^◌, ◌<◌, ◌≤◌, [], ◌∷◌, ◌++◌, length, drop, slice_get, IfOk, vec_capacity};
-ghost use Rattle.bounded_list.specs.Bounded.{Bounded, IsWithinRoom};
+ghost use Rattle.bounded_list.specs.Bounded.{Bounded, IsWithinRoom, overwritten};
 
 use std::alloc::Global;
 use std::marker::Model;
@@ -87,6 +87,14 @@ impl<T> BoundedList<T> {
     {
         self.items.as_slice()
     }
+
+    /// The items alone, in the memory of the list.
+    pub fn into_vec(self) -> Vec<T>
+        ensures { result.items ≡ self.items }
+    {
+        let BoundedList { items, room: _ } = self;
+        items
+    }
 }
 
 impl<T: Copy> BoundedList<T> {
@@ -95,6 +103,14 @@ impl<T: Copy> BoundedList<T> {
         ensures { result ≡ slice_get self.now.items place }
     {
         self.items.get(place).copied()
+    }
+
+    /// Sets the items from this place on to these.
+    pub fn overwrite(&mut self, place: usize, items: &[T])
+        requires { place + length items.now ≤ length self.old.items }
+        ensures { self.new ≡ record self.old { items = overwritten self.old.items place items.now } }
+    {
+        self.items.as_mut_slice()[place..place + items.len()].copy_from_slice(items);
     }
 }
 
@@ -113,8 +129,15 @@ mod tests {
         for (place, want) in [(0, Some(7)), (1, Some(5)), (2, None)] {
             assert_eq!(rt; list.get(place), want, "at {place}");
         }
-        assert_eq!(rt; list.remove_first(), 7);
+        list.overwrite(1, [4].as_slice());
+        assert_eq!(rt; list.as_slice(), [7, 4].as_slice());
+        list.overwrite(0, [].as_slice());
+        list.overwrite(0, [8, 5].as_slice());
+        assert_eq!(rt; list.remove_first(), 8);
         assert_eq!(rt; list.as_slice(), [5].as_slice());
+        assert_eq!(rt; list.into_vec().as_slice(), [5].as_slice());
+        let mut list = BoundedList::create(rt.alloc(), 1)?;
+        list.push(3u32);
         list.clear();
         assert_eq!(rt; list.len(), 0);
         Ok(())
