@@ -8,3 +8,4 @@ pub mod CoreUnits
 pub mod Keeping
 pub mod Assembling
 pub mod Ending
+pub mod FirstSeats

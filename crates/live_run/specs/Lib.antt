@@ -5,3 +5,5 @@ pub mod AssembledLaws
 pub mod Places
 pub mod Staying
 pub mod Ends
+pub mod Parts
+pub mod Beginnings

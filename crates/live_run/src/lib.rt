@@ -9,3 +9,10 @@ mod objects;
 mod threads;
 mod work;
 pub mod laws;
+mod parts;
+mod room;
+mod seating;
+mod tables;
+
+pub use parts::{LiveParts, RunShape};
+pub use room::RunRoom;
