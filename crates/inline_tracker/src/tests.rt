@@ -1,5 +1,9 @@
+ghost use Rattle.std.specs.Prelude.{◌≡◌, IfOk};
+ghost use Rattle.machine.specs.FinishedRuns.{IsFinishedRun};
+
 use super::*;
 use elf_image::load;
+use order_core::{Walk, all_touch_below};
 use std::alloc::Global;
 use std::test::Fail;
 use syscall_drain::{End, Guest};
@@ -40,13 +44,13 @@ const HI: [u32; 31] = [
     0x000a_6968,
 ];
 
-/// One core that runs the image of these words, with no input.
-fn setup_of(alloc: Global, words: &[u32]) -> Result<Setup, Fail> {
+/// One core or two that run the image of these words, with no input.
+fn setup_of(alloc: Global, words: &[u32], two: bool) -> Result<Setup, Fail> {
     let mut bytes = Vec::new(alloc);
     for word in words {
         bytes.extend_from_slice(&word.to_le_bytes())?;
     }
-    let image = load(alloc, &bytes, 1, 16, 256)?;
+    let image = load(alloc, &bytes, if two { 2 } else { 1 }, 16, 256)?;
     let guest = Guest::new(image, Vec::new(alloc));
     Ok(Setup::new(guest, Policy::standard(), 1_048_576, 4_294_967_280))
 }
@@ -54,7 +58,7 @@ fn setup_of(alloc: Global, words: &[u32]) -> Result<Setup, Fail> {
 #[test]
 fn hi_is_stepped_to_its_end(rt: HostRuntime) -> Result<(), Fail> {
     let no_such_core = Stepped::Refused(StepFault::NoSuchCore);
-    let setup = setup_of(rt.alloc(), &HI)?;
+    let setup = setup_of(rt.alloc(), &HI, false)?;
     let mut tracker = Tracker::create(rt.alloc(), &setup)?;
     assert_eq!(rt; tracker.step(1), no_such_core);
     for unit in 0..13 {
@@ -87,11 +91,76 @@ fn hi_is_stepped_to_its_end(rt: HostRuntime) -> Result<(), Fail> {
 
 #[test]
 fn a_core_that_has_not_ended_is_not_finished(rt: HostRuntime) -> Result<(), Fail> {
-    let setup = setup_of(rt.alloc(), &HI)?;
+    let setup = setup_of(rt.alloc(), &HI, false)?;
     let mut tracker = Tracker::create(rt.alloc(), &setup)?;
     for unit in 0..3 {
         assert_eq!(rt; tracker.step(0), Stepped::Went, "unit {unit}");
     }
     assert!(rt; tracker.finish().is_err());
+    Ok(())
+}
+
+/// Gives a core so many units, if it has not ended before.
+fn step_on(tracker: &mut Tracker, core: u8, units: u32)
+    ensures { tracker.new.setup ≡ tracker.old.setup }
+{
+    for _ in 0..units {
+        tracker.step(core);
+    }
+}
+
+/// The run in which core 1 comes to its end before core 0 begins.
+fn run_of(alloc: Global, setup: &Setup) -> Result<Finished, Fail>
+    ensures { IfOk result (λ finished. IsFinishedRun setup.now finished.run) }
+{
+    let mut tracker = Tracker::create(alloc, setup)?;
+    step_on(&mut tracker, 1, 13);
+    step_on(&mut tracker, 0, 13);
+    match tracker.finish() {
+        Ok(finished) => Ok(finished),
+        Err(_) => Err(Fail::new("is not finished")),
+    }
+}
+
+/// The same run in the order of the canonical merge of its logs, which is walked.
+fn walked(alloc: Global, setup: &Setup, finished: Finished) -> Result<Finished, Fail>
+    requires { IsFinishedRun setup.now finished.run }
+{
+    let Finished {
+        logs,
+        outcomes,
+        output,
+        ..
+    } = finished;
+    let image = setup.guest().image();
+    if !all_touch_below(logs.as_slice(), image.words()) {
+        return Err(Fail::new("a word past the last"));
+    }
+    let walk = Walk::create(alloc, image.words(), image.cores())?;
+    Ok(Finished::of_walk(setup, walk, logs, outcomes, output))
+}
+
+#[test]
+fn two_cores_are_walked_in_the_canonical_order(rt: HostRuntime) -> Result<(), Fail> {
+    let setup = setup_of(rt.alloc(), &HI, true)?;
+    let finished = run_of(rt.alloc(), &setup)?;
+    let mut finished = walked(rt.alloc(), &setup, finished)?;
+    assert_eq!(rt; finished.output().as_slice(), b"hi\nhi\n".as_slice());
+    assert_eq!(rt; finished.units(), 26);
+    for round in 0..2 {
+        // Core 0 waits before its 7th unit for core 1 to read the word of the text, and before its 9th for core 1 to claim its place.
+        for (core, units) in [(0, 6), (1, 7), (0, 2), (1, 2), (0, 5), (1, 4)] {
+            for unit in 0..units {
+                assert_eq!(rt;
+                    finished.next_core(),
+                    Some(core),
+                    "unit {unit} of {units} of core {core} in round {round}"
+                );
+            }
+        }
+        assert_eq!(rt; finished.next_core(), None, "round {round}");
+        finished.rewind();
+    }
+    assert_eq!(rt; status_of(&finished), 0);
     Ok(())
 }
