@@ -1,113 +1,7 @@
 //! The worked images: what is read off them, and the fault of each kind of damage.
 use super::{ImageFault, load};
-use std::alloc::{AllocError, Global};
+use guest_images::{HI, echo_image, small_image};
 use std::test::Fail;
-
-/// The front of an image of ten words.
-const FRONT: [u8; 84] = [
-    0x7f, 0x45, 0x4c, 0x46, 1, 1, 1, 0, 0, 0, 0, 0, 0, 0, 0, 0, // identification
-    2, 0, 0xf3, 0, 1, 0, 0, 0, 0, 0, 1, 0, 52, 0, 0, 0, // kind, machine, version, entry, table
-    0, 0, 0, 0, 0, 0, 0, 0, 52, 0, 32, 0, 1, 0, 0, 0, 0, 0, 0, 0, // flags, sizes
-    1, 0, 0, 0, 84, 0, 0, 0, 0, 0, 1, 0, 0, 0, 1, 0, // load from offset 84 to 0x10000
-    40, 0, 0, 0, 40, 0, 0, 0, 7, 0, 0, 0, 4, 0, 0, 0, // forty bytes, all permissions
-];
-
-/// Writes `hi` and a line feed, and exits with 0.
-const HELLO: [u32; 10] = [
-    0x0001_05b7,
-    0x0245_8593,
-    0x0010_0513,
-    0x0030_0613,
-    0x0400_0893,
-    0x0000_0073,
-    0x0000_0513,
-    0x05d0_0893,
-    0x0000_0073,
-    0x000a_6968,
-];
-
-/// The rest of the ELF header of the image of four program headers, from the entry on.
-const ECHO_HEADER: [u8; 28] = [
-    0xb4, 0, 1, 0, 52, 0, 0, 0, 0, 0, 0, 0, 0, 0, 0, 0, 52, 0, 32, 0, 4, 0, 0, 0, 0, 0, 0, 0,
-];
-
-/// The program headers of that image: one of the processor's own, two that load, and the stack's.
-const ECHO_TABLE: [u32; 32] = [
-    0x7000_0003,
-    0,
-    0,
-    0,
-    0,
-    0,
-    0,
-    0,
-    1,
-    0,
-    0x0001_0000,
-    0x0001_0000,
-    0xf0,
-    0xf0,
-    5,
-    0x1000,
-    1,
-    0x1000,
-    0x0001_1000,
-    0x0001_1000,
-    4,
-    16,
-    6,
-    0x1000,
-    0x6474_e551,
-    0,
-    0,
-    0,
-    0,
-    0,
-    6,
-    16,
-];
-
-/// Its fifteen words.
-const ECHO_CODE: [u32; 15] = [
-    0xfc01_0113,
-    0x0000_0513,
-    0x0001_0593,
-    0x0400_0613,
-    0x03f0_0893,
-    0x0000_0073,
-    0x0005_0613,
-    0x0010_0513,
-    0x0400_0893,
-    0x0000_0073,
-    0x0001_12b7,
-    0x00c2_a023,
-    0x0000_0513,
-    0x05d0_0893,
-    0x0000_0073,
-];
-
-fn add_words(bytes: &mut Vec<u8>, words: &[u32]) -> Result<(), AllocError> {
-    for word in words {
-        bytes.extend_from_slice(&word.to_le_bytes())?;
-    }
-    Ok(())
-}
-
-fn hello(alloc: Global) -> Result<Vec<u8>, AllocError> {
-    let mut bytes = Vec::from_slice(alloc, &FRONT)?;
-    add_words(&mut bytes, &HELLO)?;
-    Ok(bytes)
-}
-
-fn echo(alloc: Global) -> Result<Vec<u8>, AllocError> {
-    let mut bytes = Vec::from_slice(alloc, &FRONT[..24])?;
-    bytes.extend_from_slice(&ECHO_HEADER)?;
-    add_words(&mut bytes, &ECHO_TABLE)?;
-    add_words(&mut bytes, &ECHO_CODE)?;
-    bytes.resize(0x1000, 0)?;
-    bytes.extend_from_slice(&[1, 0, 0, 0])?;
-    Ok(bytes)
-}
 
 fn with_byte(mut bytes: Vec<u8>, place: usize, value: u8) -> Vec<u8> {
     if let Some(byte) = bytes.get_mut(place) {
@@ -118,7 +12,7 @@ fn with_byte(mut bytes: Vec<u8>, place: usize, value: u8) -> Vec<u8> {
 
 #[test]
 fn hello_is_laid_out(rt: HostRuntime) -> Result<(), Fail> {
-    let bytes = hello(rt.alloc())?;
+    let bytes = small_image(rt.alloc(), &HI)?;
     let image = load(rt.alloc(), &bytes, 1, 16, 256)?;
     assert_eq!(rt; (image.cores(), image.stack(), image.heap()), (1, 16, 256));
     assert_eq!(rt;
@@ -172,7 +66,7 @@ fn hello_is_laid_out(rt: HostRuntime) -> Result<(), Fail> {
 
 #[test]
 fn echo_has_two_segments(rt: HostRuntime) -> Result<(), Fail> {
-    let bytes = echo(rt.alloc())?;
+    let bytes = echo_image(rt.alloc(), 0)?;
     assert_eq!(rt; bytes.len(), 0x1004);
     let image = load(rt.alloc(), &bytes, 1, 16, 256)?;
     assert_eq!(rt; image.entry(), 0x1_00b4);
@@ -229,19 +123,19 @@ fn damage_has_its_fault(rt: HostRuntime) -> Result<(), Fail> {
         (26, 2, Some(ImageFault::Entry)),
         (80, 5, None),
     ] {
-        let bytes = with_byte(hello(rt.alloc())?, place, value);
+        let bytes = with_byte(small_image(rt.alloc(), &HI)?, place, value);
         assert_eq!(rt;
             load(rt.alloc(), &bytes, 1, 16, 256).err(),
             fault,
             "{value} at {place}"
         );
     }
-    let overlapping = with_byte(echo(rt.alloc())?, 52 + 64 + 9, 0);
+    let overlapping = with_byte(echo_image(rt.alloc(), 0)?, 52 + 64 + 9, 0);
     assert_eq!(rt;
         load(rt.alloc(), &overlapping, 1, 16, 256).err(),
         Some(ImageFault::Overlap)
     );
-    let bytes = hello(rt.alloc())?;
+    let bytes = small_image(rt.alloc(), &HI)?;
     assert_eq!(rt; load(rt.alloc(), &bytes, 8, 480, 255).err(), None);
     assert_eq!(rt;
         load(rt.alloc(), &bytes, 8, 480, 256).err(),
