@@ -80,4 +80,5 @@ pub record HartLeaves (h : Hart) (parts : HartParts) : Type 0 where
   pub units : parts.units ≡ h.local.units
   pub whole : cut_length parts.pieces.items ≡ length parts.output.items
   pub caller : parts.pass.caller ≡ h.core
+  pub kept : (parts.entries ≡ h.log) × (parts.notes ≡ h.notes) × (parts.output ≡ h.output) × (parts.pieces ≡ h.pieces)
   pub tokens : (parts.pass ≡ h.pass) × (parts.sender ≡ h.sender) × (parts.taker ≡ h.taker)
