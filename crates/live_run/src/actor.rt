@@ -110,14 +110,14 @@ impl Lasting for TagActor {
 impl<'a> Actor<Objects<'a>> for HartActor {
     ghost use Rattle.live_run.specs.Staying.{hart_fits_still};
 
-    ghost fits = { λ place core hart. FitsHart place.guest.now place.memory.now place.items.now place.replies.now place.quantum core hart };
+    ghost fits = { λ place core hart. FitsHart place.setup.now.program place.memory.now place.items.now place.replies.now place.quantum core hart };
 
-    ghost fits_still = { λ place core a b. hart_fits_still place.guest.now place.memory.now place.items.now place.replies.now place.quantum core a b };
+    ghost fits_still = { λ place core a b. hart_fits_still place.setup.now.program place.memory.now place.items.now place.replies.now place.quantum core a b };
 
     fn visit<R: Wait>(&mut self, rt: &R, place: &Objects<'a>, core: usize) -> Visit {
         let turn = self.turn(
             rt,
-            place.guest,
+            place.setup.guest(),
             place.memory,
             &place.items[core],
             &place.replies[core],

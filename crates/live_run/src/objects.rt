@@ -1,10 +1,10 @@
+use inline_tracker::Setup;
 use record_lane::{Lane, Record, Reply, Ring};
-use syscall_drain::Guest;
 use word_stores::{SharedMemory, TagMemory};
 
 /// What the turns of a run's actors use. The ring and the lane of a core stand at its number.
 pub(crate) struct Objects<'a> {
-    pub guest: &'a Guest,
+    pub setup: &'a Setup,
     pub memory: &'a SharedMemory,
     pub tags: &'a TagMemory,
     pub items: &'a [Ring<Record>],

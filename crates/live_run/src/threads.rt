@@ -8,7 +8,7 @@ use outside::Gate;
 use std::snapshot::Snapshot;
 use std::sync::Wait;
 use std::sync::atomic::{AtomicBool, Ordering};
-use std::thread::{Promise, PromisedHandle, Scope, Threads};
+use std::thread::{self, Promise, PromisedHandle, Scope, Threads};
 
 /// The promise of a thread: this actor comes back.
 #[derive(Drop)]
@@ -47,14 +47,84 @@ fn start<'s, E, A: Actor<S> + Send + Drop + 's, S: Sync + 's, G: Gate + 's, X: W
 }
 
 /// The actor, once its thread has come to an end.
-fn come_back<A: Lasting + Drop, X: Threads>(
+fn come_back<A: Drop, P: Promise<A>, X: Threads>(
     rt: &X,
-    started: Result<PromisedHandle<A, ComesBack<A>>, A>,
+    started: Result<PromisedHandle<A, P>, A>,
 ) -> A
-    ensures { MatchResult started (λ handle. A.same handle.promise.0.value result) (λ here. result ≡ here) }
+    ensures { MatchResult started (λ handle. P.kept_by handle.promise result) (λ here. result ≡ here) }
 {
     match started {
         Ok(handle) => handle.join(rt),
         Err(here) => here,
     }
+}
+
+/// Starts the actors of the last pair of a list, those of the pairs before it in the same way, and waits until all have come back.
+fn run_pairs<
+    's,
+    E,
+    A: Actor<S> + Send + Drop + 's,
+    B: Actor<S> + Send + Drop + 's,
+    S: Sync + 's,
+    G: Gate + 's,
+    X: Threads + Wait + Sync + 's,
+>(
+    scope: &Scope<'s, E>,
+    rt: &'s X,
+    harts: &mut Vec<A>,
+    followers: &mut Vec<B>,
+    place: &'s S,
+    gate: &'s G,
+    recall: &'s AtomicBool,
+)
+    requires harts { EachIs (A.fits place.now) harts.old.items × (vec_len harts.old ≤ 255) × (vec_len harts.old ≤ vec_capacity harts.old) }
+    requires followers { EachIs (B.fits place.now) followers.old.items × (vec_len followers.old ≡ vec_len harts.old) × (vec_len followers.old ≤ vec_capacity followers.old) }
+    ensures harts { AreSame A.same harts.old.items harts.new.items × (vec_capacity harts.new ≡ vec_capacity harts.old) }
+    ensures followers { AreSame B.same followers.old.items followers.new.items × (vec_capacity followers.new ≡ vec_capacity followers.old) }
+{
+    if recall.load(Ordering::SeqCst) {
+        return;
+    }
+    let Some(hart) = harts.pop() else { return };
+    let Some(follower) = followers.pop() else {
+        unreachable!()
+    };
+    let core = harts.len() as u8;
+    let hart = start(scope, rt, hart, place, core, gate, recall);
+    let follower = start(scope, rt, follower, place, core, gate, recall);
+    run_pairs(scope, rt, harts, followers, place, gate, recall);
+    harts.push_reserved(come_back(rt, hart));
+    followers.push_reserved(come_back(rt, follower));
+}
+
+/// Turns of all actors, each on a thread of its own, until all have ended or a thread cannot be made.
+pub(crate) fn run_in_threads<
+    A: Actor<S> + Send + Drop,
+    B: Actor<S> + Send + Drop,
+    S: Sync,
+    G: Gate,
+    X: Threads + Wait + Sync,
+>(rt: &X, harts: Vec<A>, followers: Vec<B>, place: &S, gate: &G) -> (Vec<A>, Vec<B>)
+    requires harts { EachIs (A.fits place.now) harts.items × (vec_len harts ≤ 255) × (vec_len harts ≤ vec_capacity harts) }
+    requires followers { EachIs (B.fits place.now) followers.items × (vec_len followers ≡ vec_len harts) × (vec_len followers ≤ vec_capacity followers) }
+    ensures harts { AreSame A.same harts.items result.0.items }
+    ensures followers { AreSame B.same followers.items result.1.items }
+{
+    let recall = AtomicBool::new(false);
+    let flag = &recall;
+    thread::scope(
+        thread::scope_env(),
+        rt,
+        move |scope| -> (Vec<A>, Vec<B>)
+            requires harts { EachIs (A.fits place.now) harts.items × (vec_len harts ≤ 255) × (vec_len harts ≤ vec_capacity harts) }
+            requires followers { EachIs (B.fits place.now) followers.items × (vec_len followers ≡ vec_len harts) × (vec_len followers ≤ vec_capacity followers) }
+            ensures harts { AreSame A.same harts.items result.0.items }
+            ensures followers { AreSame B.same followers.items result.1.items }
+        {
+            let mut harts = harts;
+            let mut followers = followers;
+            run_pairs(scope, rt, &mut harts, &mut followers, place, gate, flag);
+            (harts, followers)
+        },
+    )
 }
