@@ -96,3 +96,9 @@ over_more has_ended xs core new false now before last both place a below at = ab
 
 pub each_below : {A : Type 0} (has_ended : A → Type 0) (xs : List A) (core : ℕ) → length xs ≤ core → ((place : ℕ) (a : A) → place < core → slice_get xs place ≡ Some a → has_ended a) → EachIs (λ _. has_ended) xs
 each_below has_ended xs core all before place a at = before place a (omega (arith, slice_get_within xs place a at)) at
+
+-- a list that was lent out whole and came back with as many actors
+pub same_lent : {A : Type 0} (same : A → A → Type 0) (old new rest : List A) (count : ℕ) → AreSame same old new → count ≡ length old → AreSame same old (take count (new ++ rest))
+same_lent {A} same old new rest count are counted =
+    let whole : take count (new ++ rest) ≡ new = ap (λ (n : ℕ). take n (new ++ rest)) (counted ∙ sym are.count) ∙ take-append_seam new rest in
+    subst (λ (xs : List A). AreSame same old xs) (sym whole) are

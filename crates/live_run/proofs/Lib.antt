@@ -9,3 +9,4 @@ pub mod Keeping
 pub mod Assembling
 pub mod Ending
 pub mod FirstSeats
+pub mod Seating

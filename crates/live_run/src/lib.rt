@@ -4,8 +4,10 @@
 mod ends;
 mod pair;
 mod actor;
+mod actors;
 mod drive;
 mod objects;
+mod pair;
 mod threads;
 mod work;
 pub mod laws;

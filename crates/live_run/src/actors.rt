@@ -1,0 +1,59 @@
+//! All actors of a run.
+ghost use Rattle.std.specs.Prelude.{◌≤◌};
+ghost use Rattle.live_run.specs.Seats.{AreSeats, HaveEnded};
+
+use crate::drive::drive;
+use crate::objects::Objects;
+use crate::threads::run_in_threads;
+use hart_actor::HartActor;
+use outside::Gate;
+use std::sync::Wait;
+use std::thread::Threads;
+use tag_actor::TagActor;
+
+/// The actors of a run. Each core and its tag actor stand at the core's number.
+#[derive(Drop)]
+pub(crate) struct Actors {
+    pub harts: Vec<HartActor>,
+    pub followers: Vec<TagActor>,
+}
+
+/// Turns of all actors, each on a thread of its own, until all have ended. Where a thread cannot be made, all actors are called
+/// back, and have their turns here.
+pub(crate) fn run_all<G: Gate, X: Threads + Wait + Sync>(
+    rt: &X,
+    objects: &Objects<'_>,
+    actors: Actors,
+    gate: &G,
+) -> Actors
+    requires seats { AreSeats objects.now.setup.now objects.now.memory.now objects.now.tags.now actors.harts.items actors.followers.items objects.now.items.now objects.now.replies.now }
+    requires quantum { 1 ≤ objects.now.quantum }
+    ensures seats { AreSeats objects.now.setup.now objects.now.memory.now objects.now.tags.now result.harts.items result.followers.items objects.now.items.now objects.now.replies.now }
+    ensures ended { HaveEnded result.harts.items result.followers.items }
+{
+    let _guest = objects.setup.guest();
+    let Actors { harts, followers } = actors;
+    let (harts, followers) = run_in_threads(rt, harts, followers, objects, gate);
+    drive_all(rt, objects, Actors { harts, followers }, gate)
+}
+
+/// Turns of all actors, one after another in the order of the cores, until all have ended.
+pub(crate) fn drive_all<G: Gate, R: Wait>(
+    rt: &R,
+    objects: &Objects<'_>,
+    actors: Actors,
+    gate: &G,
+) -> Actors
+    requires seats { AreSeats objects.now.setup.now objects.now.memory.now objects.now.tags.now actors.harts.items actors.followers.items objects.now.items.now objects.now.replies.now }
+    requires quantum { 1 ≤ objects.now.quantum }
+    ensures seats { AreSeats objects.now.setup.now objects.now.memory.now objects.now.tags.now result.harts.items result.followers.items objects.now.items.now objects.now.replies.now }
+    ensures ended { HaveEnded result.harts.items result.followers.items }
+{
+    let _guest = objects.setup.guest();
+    let Actors {
+        mut harts,
+        mut followers,
+    } = actors;
+    drive(rt, &mut harts, &mut followers, objects, gate);
+    Actors { harts, followers }
+}
