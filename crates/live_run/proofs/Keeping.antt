@@ -1,8 +1,8 @@
 -- Lists of the same actors at a later moment, one actor after another.
-use Rattle.std.proofs.Common.{◌≡◌, ◌≢◌, ◌⊎◌, ℕ, zero, suc, ◌+◌, ◌<◌, List, [], ◌∷◌, ◌++◌, length, slice_get, set, Option, Some, None, refl, sym, ◌∙◌, ap, subst, inl, inr, arith, ◌≤◌, Bool, true, false, ◌&&◌, IsTrue, get_or, take, length-append}
+use Rattle.std.proofs.Common.{◌≡◌, ◌≢◌, ◌⊎◌, ℕ, zero, suc, ◌+◌, ◌<◌, List, [], ◌∷◌, ◌++◌, length, slice_get, set, Some, refl, sym, ◌∙◌, ap, subst, inl, inr, arith, ◌≤◌, Bool, true, false, ◌&&◌, IsTrue, get_or, take, length-append}
 use Rattle.std.proofs.Math.ListN.{length-set}
 use Rattle.std.proofs.Math.Seq.{take-append_seam}
-use Rattle.std.proofs.lemmas.Option.{slice_get_within, slice_get-get_or, get_or_from_slice_get}
+use Rattle.std.proofs.lemmas.Option.{slice_get_within, slice_get-get_or}
 use Rattle.live_run.specs.Places.{EachIs, AreSame}
 
 -- ---- what stands at a place of a changed list

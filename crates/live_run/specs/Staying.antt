@@ -1,5 +1,5 @@
 -- Proof form: an actor's objects are its objects at each later moment.
-use Rattle.std.specs.Prelude.{◌≡◌, ℕ, List}
+use Rattle.std.specs.Prelude.{ℕ, List}
 use Rattle.std.proofs.Common.{◌∙◌}
 use Rattle.record_lane.specs.declared.record.Record.{Record}
 use Rattle.record_lane.specs.declared.reply.Reply.{Reply}

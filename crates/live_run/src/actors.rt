@@ -19,7 +19,7 @@ pub(crate) struct Actors {
 }
 
 /// Turns of all actors, each on a thread of its own, until all have ended. Where a thread cannot be made, all actors are called
-/// back, and have their turns here.
+/// back, and have their further turns here, which the gate is told of with numbers from 0 again.
 pub(crate) fn run_all<G: Gate, X: Threads + Wait + Sync>(
     rt: &X,
     objects: &Objects<'_>,

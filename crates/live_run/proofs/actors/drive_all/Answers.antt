@@ -18,5 +18,5 @@ drive-requires-clause-followers g c κs within =
 pub returns-clause-seats : goal.returns-clause-seats
 returns-clause-seats g c =
     seats_still _ _ _ _ _ _ _ _ _ c.requires.seats
-      (same_lent IsSameHart _ c.drive.new.harts _ c.args.actors.harts.len (search rules) (search rules))
-      (same_lent IsSameActor _ c.drive.new.followers _ c.args.actors.followers.len (search rules) (search rules))
+    (same_lent IsSameHart _ c.drive.new.harts _ c.args.actors.harts.len (search rules) (search rules))
+    (same_lent IsSameActor _ c.drive.new.followers _ c.args.actors.followers.len (search rules) (search rules))
