@@ -19,8 +19,8 @@ use Rattle.hart_actor.specs.Harts.{Hart}
 use Rattle.hart_actor.specs.Objects.{AreOf as AreOfHart}
 use Rattle.tag_actor.specs.Seen.{TagActorSeen}
 use Rattle.tag_actor.specs.Turns.{AreOf as AreOfTagger}
-use Rattle.live_run.specs.declared.seating.Seat.{Seat}
-use Rattle.live_run.specs.declared.seating.Seats.{Seats}
+use Rattle.live_run.specs.declared.opening.Seat.{Seat}
+use Rattle.live_run.specs.declared.opening.Seats.{Seats}
 use Rattle.live_run.specs.Seats.{AreTables, AreSeats, IsSeat}
 use Rattle.live_run.specs.Beginnings.{IsNewHart, IsNewFollower, AreFirstSeats}
 

@@ -13,7 +13,7 @@ use Rattle.hart_actor.specs.declared.stage.Stage.TheVariants.{Going}
 use Rattle.hart_actor.specs.Harts.{Hart}
 use Rattle.tag_actor.specs.Seen.{TagActorSeen, begins}
 use Rattle.live_run.specs.declared.tables.Tables.{Tables}
-use Rattle.live_run.specs.declared.seating.Seats.{Seats}
+use Rattle.live_run.specs.declared.opening.Seats.{Seats}
 use Rattle.live_run.specs.Seats.{AreTables, IsSeat}
 
 -- the core is before its first unit, and nothing was drawn, sent or taken

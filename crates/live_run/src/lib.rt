@@ -11,9 +11,9 @@ mod pair;
 mod threads;
 mod work;
 pub mod laws;
+mod opening;
 mod parts;
 mod room;
-mod seating;
 mod tables;
 
 pub use parts::{LiveParts, RunShape};

@@ -4,8 +4,8 @@ ghost use Rattle.live_run.specs.Seats.{HaveEnded};
 ghost use Rattle.live_run.specs.Parts.{HaveAllEnded, HaveAllFollowed};
 ghost use Rattle.live_run.specs.Beginnings.{AreNew};
 
+use crate::opening::{Seats, first_seats};
 use crate::room::RunRoom;
-use crate::seating::{Seats, first_seats};
 use crate::tables::Tables;
 use hart_actor::HartActor;
 use inline_tracker::Setup;

@@ -1,6 +1,6 @@
 use Rattle.std.proofs.Common.{◌∙◌}
 use Rattle.live_run.proofs.FirstSeats.{seats_more}
-use Rattle.live_run.proofs.seating.first_seats.Goals as goal
+use Rattle.live_run.proofs.opening.first_seats.Goals as goal
 
 pub loop-core-preserved : goal.loop-core-preserved
 loop-core-preserved c =

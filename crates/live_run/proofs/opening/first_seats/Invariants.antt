@@ -1,6 +1,6 @@
 use Rattle.std.proofs.Common.{◌≡◌}
 use Rattle.live_run.specs.Beginnings.{HavePasses, AreFirstSeats}
-use Rattle.live_run.proofs.seating.first_seats.Given as goal
+use Rattle.live_run.proofs.opening.first_seats.Given as goal
 
 abbrev pub invariant-loop-core : goal.invariant-loop-core
 invariant-loop-core l = record {

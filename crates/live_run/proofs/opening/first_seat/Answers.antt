@@ -7,7 +7,7 @@ use Rattle.syscall_drain.specs.Programs.{Program}
 use Rattle.syscall_drain.specs.Locals.{opening_local}
 use Rattle.machine.specs.Setups.{core_count}
 use Rattle.live_run.proofs.FirstSeats.{deals_next, hart_of, follower_of, new_pass, top_is}
-use Rattle.live_run.proofs.seating.first_seat.Goals as goal
+use Rattle.live_run.proofs.opening.first_seat.Goals as goal
 
 pub create-requires-3-clause-caller : goal.create-requires-3-clause-caller
 create-requires-3-clause-caller c =
