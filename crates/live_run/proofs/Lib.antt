@@ -10,3 +10,8 @@ pub mod Assembling
 pub mod Ending
 pub mod FirstSeats
 pub mod Seating
+pub mod Laying
+pub mod LayingOut
+pub mod Spans
+pub mod Claiming
+pub mod Spacing

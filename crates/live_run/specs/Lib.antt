@@ -7,3 +7,4 @@ pub mod Staying
 pub mod Ends
 pub mod Parts
 pub mod Beginnings
+pub mod Laying

@@ -2,6 +2,7 @@
 #![tactic(auto)]
 
 mod ends;
+mod output;
 mod pair;
 mod actor;
 mod actors;
