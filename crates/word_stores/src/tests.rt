@@ -1,57 +1,27 @@
 use crate::{Served, SharedMemory, TagMemory};
 use elf_image::{Image, ImageFault, load};
+use guest_images::{HI, small_image};
 use rv_execute::Op;
 use std::alloc::Global;
 use std::test::Fail;
 use ticket_table::{number, payload};
 
-/// A file with one segment at 0x10000, of the two instructions that ask for exit code 0 and of their call.
-const EXIT: [u32; 24] = [
-    0x464c_457f,
-    0x0001_0101,
-    0,
-    0,
-    0x00f3_0002,
-    1,
-    0x0001_0000,
-    52,
-    0,
-    0,
-    0x0020_0034,
-    1,
-    0,
-    1,
-    84,
-    0x0001_0000,
-    0x0001_0000,
-    12,
-    12,
-    7,
-    4,
-    0x0000_0513,
-    0x05d0_0893,
-    0x0000_0073,
-];
-
-/// The image of the file, for one core, one page of stack and one of heap.
-fn exit_image(alloc: Global) -> Result<Image, ImageFault> {
-    let mut bytes = Vec::new(alloc);
-    for word in EXIT {
-        bytes.extend_from_slice(&word.to_le_bytes())?;
-    }
-    load(alloc, bytes.as_slice(), 1, 1, 1)
+/// The image of a program, for one core, one page of stack and one of heap.
+fn image_of(alloc: Global, program: &[u32]) -> Result<Image, ImageFault> {
+    let bytes = small_image(alloc, program)?;
+    load(alloc, &bytes, 1, 1, 1)
 }
 
 #[test]
 fn shared_memory_begins_with_the_words_of_its_image(rt: HostRuntime) -> Result<(), Fail> {
-    let image = exit_image(rt.alloc())?;
+    let image = image_of(rt.alloc(), &HI)?;
     assert_eq!(rt; image.words(), 3075);
     let (memory, mut passes) = SharedMemory::create(rt.alloc(), &image, 1, 10)?;
     let mut pass = passes.pop().ok_or("a pass")?;
     let call = memory.access(&mut pass, 5, Op::Read);
     assert_eq!(rt;
         (call.number, call.old, call.spent),
-        (0, 0x0000_0073, false)
+        (0, 0x0010_0513, false)
     );
     let lengthen = Op::Break {
         want: 0x0001_1010,
