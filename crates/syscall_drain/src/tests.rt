@@ -3,44 +3,10 @@ ghost use Rattle.syscall_drain.specs.Units.{Fits, taken_of};
 
 use super::*;
 use elf_image::load;
+use guest_images::{HI, small_image};
 use record_lane::{MeetKind, Record, Reply};
 use rv_execute::{Op, Taken};
 use std::test::Fail;
-
-/// A program at 0x10000 that writes `hi` and exits: the file's header, its one program header, ten words.
-const HI: [u32; 31] = [
-    0x464c_457f,
-    0x0001_0101,
-    0,
-    0,
-    0x00f3_0002,
-    1,
-    0x0001_0000,
-    52,
-    0,
-    0,
-    0x0020_0034,
-    1,
-    0,
-    1,
-    84,
-    0x0001_0000,
-    0x0001_0000,
-    40,
-    40,
-    7,
-    4,
-    0x0001_05b7,
-    0x0245_8593,
-    0x0010_0513,
-    0x0030_0613,
-    0x0400_0893,
-    0x0000_0073,
-    0x0000_0513,
-    0x05d0_0893,
-    0x0000_0073,
-    0x000a_6968,
-];
 
 /// An answer to an ask: an access is the first to its word and finds this word.
 fn answer_to(ask: CoreAsk, word: u32) -> Option<Answer>
@@ -74,10 +40,7 @@ fn spend(core: &mut CoreState, guest: &Guest, word: u32) -> Option<CoreAsk> {
 
 #[test]
 fn hi_prints_and_exits(rt: HostRuntime) -> Result<(), Fail> {
-    let mut bytes = Vec::new(rt.alloc());
-    for word in HI {
-        bytes.extend_from_slice(&word.to_le_bytes())?;
-    }
+    let bytes = small_image(rt.alloc(), &HI)?;
     let image = load(rt.alloc(), &bytes, 1, 16, 256)?;
     assert_eq!(rt; image.entry() % 4, 0);
     let guest = Guest::new(image, Vec::new(rt.alloc()));
