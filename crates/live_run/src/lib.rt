@@ -1,21 +1,20 @@
 //! A run with a thread for each actor: the cores of a setup and their tag actors.
 #![tactic(auto)]
 
-mod ends;
-mod output;
-mod pair;
 mod actor;
 mod actors;
 mod drive;
-mod objects;
-mod pair;
-mod threads;
-mod work;
+mod ends;
 pub mod laws;
+mod objects;
 mod opening;
+mod output;
+mod pair;
 mod parts;
 mod room;
 mod tables;
+mod threads;
+mod work;
 
 pub use parts::{LiveParts, RunShape};
 pub use room::RunRoom;
