@@ -1,5 +1,5 @@
 -- What a core claims of the output, as its changes of memory tell it: the place that each claim found, and its length.
-use Rattle.std.proofs.Common.{◌≡◌, ℕ, ◌+◌, ◌*◌, ◌<◌, ◌≤◌, Bool, true, false, ◌&&◌, not, ◌==◌, nat_lt, nat_le, if◌then◌else◌, Option, Some, None, List, [], ◌∷◌, ◌++◌, map, length, refl, sym, ap, ap₂, ◌∙◌, subst, arith, append_assoc}
+use Rattle.std.proofs.Common.{◌≡◌, ℕ, ◌+◌, ◌*◌, ◌<◌, ◌≤◌, Bool, true, false, ◌&&◌, not, ◌==◌, nat_lt, nat_le, if◌then◌else◌, Option, Some, None, List, [], ◌∷◌, ◌++◌, map, length, refl, sym, ap, ap₂, ◌∙◌, arith, append_assoc}
 use Rattle.std.specs.List.{AllByRecursion}
 use Rattle.std.proofs.lemmas.Bool.Decides.{nat_tests}
 use Rattle.std.proofs.lemmas.List.{map-append}
@@ -12,7 +12,7 @@ use Rattle.elf_image.specs.declared.device.TheConstants.{OUTPUT_WORD}
 use Rattle.syscall_drain.specs.Programs.{Program}
 use Rattle.syscall_drain.specs.Locals.{Local, opening_local}
 use Rattle.syscall_drain.specs.Units.{Fits, next_ask, answered, taken_of, place_asked, placed}
-use Rattle.syscall_drain.specs.Runs.{local_after, IsLocalRun}
+use Rattle.syscall_drain.specs.Runs.{IsLocalRun}
 use Rattle.syscall_drain.specs.Sound.{IsSound, due}
 use Rattle.syscall_drain.specs.Pieces.{Piece, piece_at, bytes_placed}
 use Rattle.syscall_drain.specs.declared.ask.CoreAsk.{CoreAsk}

@@ -1,11 +1,11 @@
 -- The pieces of one core after another are put into the output.
-use Rattle.std.proofs.Common.{◌≡◌, ℕ, suc, ◌+◌, ◌<◌, List, [], ◌∷◌, ◌++◌, drop, length, replicate, refl, sym, ap, ap₂, ◌∙◌, subst, arith}
+use Rattle.std.proofs.Common.{◌≡◌, ℕ, suc, ◌+◌, ◌<◌, List, [], ◌∷◌, drop, length, replicate, sym, ap, ap₂, ◌∙◌, subst, arith}
 use Rattle.std.specs.Prelude.{slice_index_or}
 use Rattle.std.specs.List.{AllByRecursion}
 use Rattle.std.proofs.Math.Seq.{drop-cons}
 use Rattle.bounded_list.specs.Bounded.{Bounded}
 use Rattle.live_run.specs.declared.ends.Claims.{Claims}
-use Rattle.live_run.specs.Laying.{laid, IsWithin, pieces_in, pieces_of, AreLayable}
+use Rattle.live_run.specs.Laying.{laid, pieces_in, pieces_of, AreLayable}
 use Rattle.live_run.proofs.Laying.{laid_length, laid_append}
 
 -- the pieces of some cores are put down; those of the others are left

@@ -15,3 +15,7 @@ pub mod LayingOut
 pub mod Spans
 pub mod Claiming
 pub mod Spacing
+pub mod CoreClaims
+pub mod PiecesApart
+pub mod RunClaims
+pub mod ClosedRun

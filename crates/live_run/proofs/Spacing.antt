@@ -1,12 +1,11 @@
 -- In a history of the memory no two claims on the output have a byte in common, and together they are as long as its word says.
-use Rattle.std.proofs.Common.{◌≡◌, ◌≢◌, ◌⊎◌, ℕ, zero, suc, ◌+◌, ◌<◌, ◌≤◌, Bool, true, false, ◌==◌, ◌&&◌, nat_lt, if◌then◌else◌, List, [], ◌∷◌, ◌++◌, refl, sym, ap, ◌∙◌, subst, inl, inr, ⊎_elim, arith, append-nil}
+use Rattle.std.proofs.Common.{◌≡◌, ◌≢◌, ◌⊎◌, ℕ, zero, suc, ◌+◌, ◌<◌, Bool, true, false, ◌==◌, nat_lt, List, [], ◌∷◌, ◌++◌, refl, sym, ap, ◌∙◌, subst, inl, inr, ⊎_elim, arith, append-nil}
 use Rattle.std.specs.Prelude.{slice_index}
 use Rattle.std.specs.List.{AllByRecursion}
 use Rattle.std.proofs.lemmas.Bool.{cases_eq}
 use Rattle.std.proofs.lemmas.Bool.Decides.{nat_tests}
 use Rattle.elf_image.specs.declared.device.TheConstants.{OUTPUT_WORD}
 use Rattle.rv_execute.specs.declared.op.Op.{Op}
-use Rattle.rv_execute.specs.declared.op.Op.TheVariants.{Place}
 use Rattle.rv_execute.specs.Words.{wrapped}
 use Rattle.rv_execute.specs.Payloads.{changed}
 use Rattle.ticket_table.specs.declared.change.Role.{Role}

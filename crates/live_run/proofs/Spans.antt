@@ -53,7 +53,7 @@ apart_sym : (x y : ℕ × ℕ) → SpansApart x y → SpansApart y x
 apart_sym x y (inl before) = inr before
 apart_sym x y (inr behind) = inl behind
 
-apart_none : (xs : List (ℕ × ℕ)) → AllApart xs []
+pub apart_none : (xs : List (ℕ × ℕ)) → AllApart xs []
 apart_none [] = tt
 apart_none (x ∷ xs) = (tt, apart_none xs)
 

@@ -8,3 +8,4 @@ pub mod Ends
 pub mod Parts
 pub mod Beginnings
 pub mod Laying
+pub mod Closing

@@ -4,6 +4,7 @@
 mod actor;
 mod actors;
 mod drive;
+mod closing;
 mod ends;
 pub mod laws;
 mod objects;

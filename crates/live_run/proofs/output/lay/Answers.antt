@@ -1,8 +1,6 @@
 use Rattle.std.proofs.Common.{◌≡◌, ◌≤◌, [], drop, length}
 use Rattle.std.proofs.Math.ListN.{drop_of_length-le}
 use Rattle.live_run.proofs.Laying.{next_piece, laying_more, laying_over, next_at}
-use Rattle.live_run.proofs.Spacing.{spaced}
-use Rattle.live_run.proofs.Claiming.{run_claims, claims_short}
 use Rattle.live_run.proofs.output.lay.Goals as goal
 
 pub split_at-requires : goal.split_at-requires
