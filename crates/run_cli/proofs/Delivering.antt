@@ -7,10 +7,11 @@ use Rattle.machine.specs.Outcomes.{class_of, status_class}
 use Rattle.machine.specs.FinishedRuns.{FinishedRun, IsFinishedRun}
 use Rattle.trap_report.specs.Text.{text}
 use Rattle.run_cli.specs.Seen.{SinksSeen}
-use Rattle.run_cli.specs.Endings.{Delivered}
+use Rattle.run_cli.specs.Endings.{run_answer}
+use Rattle.run_cli.specs.Forms.{Delivered}
 use Rattle.run_cli.specs.declared.ending.Ending.TheVariants.{Class}
 
-pub delivers : (s : Setup) (finished : FinishedRun) (old new : SinksSeen) (class : ℕ) → IsFinishedRun s finished → Appends old.out.written new.out.written finished.output → new.out.faults ≡ old.out.faults → Wrote (text s finished.order) old.report new.report → class ≡ class_of finished.cores → class ≤ 5 → Delivered s finished.order old new (Class class)
+pub delivers : (s : Setup) (finished : FinishedRun) (old new : SinksSeen) (class : ℕ) → IsFinishedRun s finished → Appends old.out.written new.out.written finished.output → new.out.faults ≡ old.out.faults → Wrote (text s finished.order) old.report new.report → class ≡ class_of finished.cores → class ≤ 5 → Delivered (run_answer s finished.order) old new (Class class)
 unfolding status_class
 delivers s finished old new class ran whole kept report is within = (
   is ∙ ap (λ (f : FinishedRun). class_of f.cores) ran.run,

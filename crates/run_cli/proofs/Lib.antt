@@ -3,5 +3,8 @@ pub mod Ends
 pub mod Reading
 pub mod ReadsOnce
 pub mod Delivering
+pub mod Concluding
+pub mod Replaying
 pub mod Completing
+pub mod Completes
 pub mod MapLemmas

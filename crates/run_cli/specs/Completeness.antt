@@ -1,48 +1,71 @@
--- When a command answers the class of a run or want of memory, and nothing else (this project's own).
+-- When a command is not refused but for want of memory (this project's own).
 use Rattle.std.specs.Prelude.{◌≡◌, ℕ, ◌⊎◌, List, Option, None, Some, IsSome}
 use Rattle.outside.specs.Faults.{Rose}
 use Rattle.elf_image.specs.Layout.{Layout}
 use Rattle.machine.specs.Setups.{Setup}
-use Rattle.machine.specs.Runs.{along}
+use Rattle.machine.specs.Runs.{along, IsComplete}
 use Rattle.machine.specs.Outcomes.{status_class}
-use Rattle.run_cli.specs.Seen.{FilesSeen, SinksSeen, ImageAsked}
-use Rattle.run_cli.specs.Words.{ReadsMap}
-use Rattle.run_cli.specs.Work.{IsImage, IsRunOf}
+use Rattle.trap_report.specs.Text.{text}
+use Rattle.trap_report.specs.Reading.{Reported}
+use Rattle.run_cli.specs.Seen.{FilesSeen, Seen}
+use Rattle.run_cli.specs.Asked.{ImageAsked, SetupAsked, RunAsked, ReplayAsked, Run, Replay, Inspect}
+use Rattle.run_cli.specs.Words.{Reads}
+use Rattle.run_cli.specs.Work.{IsImage, IsSetupOf, IsReplayOf, setup_told}
 use Rattle.run_cli.specs.Rotation.{rotation}
 
 abbrev pub IsToldOf : FilesSeen → Option (List ℕ) → Type 0
 IsToldOf files None = Unit {0}
 IsToldOf files (Some name) = IsSome (files.held name)
 
--- the words and the files are those of this setup, and the contents of the files are told
-pub record CanRun (words : List (List ℕ)) (files : FilesSeen) (s : Setup) : Type 0 where
-  pub run_of : IsRunOf words files s
-  pub image : IsSome (files.held run_of.options.image.name)
-  pub policy : IsToldOf files run_of.options.policy
-  pub input : IsToldOf files run_of.options.input
+-- the files are those of this setup, and their contents are told
+pub record AreToldOf (files : FilesSeen) (o : SetupAsked) (s : Setup) : Type 0 where
+  pub setup_is : IsSetupOf files o s
+  pub image : IsSome (files.held o.image.name)
+  pub policy : IsToldOf files o.policy
+  pub input : IsToldOf files o.input
 
--- so for the map of an image
+-- the words and the files are those of a run of this setup
+pub record CanRun (words : List (List ℕ)) (files : FilesSeen) (s : Setup) : Type 0 where
+  pub asked : RunAsked
+  pub reads : Reads words (Run asked)
+  pub told : AreToldOf files asked.setup s
+
+-- they are those of a report that is the text of its own order, which is complete
+pub record CanReplay (words : List (List ℕ)) (files : FilesSeen) : Type 0 where
+  pub asked : ReplayAsked
+  pub reads : Reads words (Replay asked)
+  pub report : IsSome (files.held asked.report)
+  pub bytes : List ℕ
+  pub told : Reported
+  pub setup : Setup
+  pub replay_of : IsReplayOf files asked bytes told setup
+  pub files_told : AreToldOf files (setup_told asked told.numbers) setup
+  pub complete : IsComplete setup told.order
+  pub same : bytes ≡ text setup told.order
+
+-- they are those of the map of an image
 pub record CanMap (words : List (List ℕ)) (files : FilesSeen) (image : Layout) : Type 0 where
   pub asked : ImageAsked
-  pub reads : ReadsMap words asked
+  pub reads : Reads words (Inspect asked)
   pub image_is : IsImage files asked image
   pub told : IsSome (files.held asked.name)
 
 -- no count of faults rose
-pub record NothingRose (old new : FilesSeen) (sinks_old sinks_new : SinksSeen) : Type 0 where
-  pub files : (name : List ℕ) → Rose (old.faults name) (new.faults name) → ⊥
-  pub out : Rose sinks_old.out.faults sinks_new.out.faults → ⊥
-  pub report : Rose sinks_old.report.faults sinks_new.report.faults → ⊥
+pub record NothingRose (old new : Seen) : Type 0 where
+  pub files : (name : List ℕ) → Rose (old.files.faults name) (new.files.faults name) → ⊥
+  pub out : Rose old.sinks.out.faults new.sinks.out.faults → ⊥
+  pub report : Rose old.sinks.report.faults new.sinks.report.faults → ⊥
 
 -- the class of the run in which the cores have their turns
 abbrev pub class_in_turn : Setup → ℕ
 class_in_turn s = status_class s (along s (rotation s))
 
--- what can run is answered by the class of its run, and a map by 0, or either for want of memory by 71, where no count rose
-abbrev pub Completes : List (List ℕ) → FilesSeen → FilesSeen → SinksSeen → SinksSeen → ℕ → Type 0
-Completes words old new sinks_old sinks_new status =
-    (s : Setup) → CanRun words old s → NothingRose old new sinks_old sinks_new → (status ≡ class_in_turn s) ⊎ (status ≡ 71)
+-- where no count rose, a run is answered by its class, a replay and a map by 0, or each by 71
+abbrev pub Completes : List (List ℕ) → Seen → Seen → ℕ → Type 0
+Completes words old new status = (s : Setup) → CanRun words old.files s → NothingRose old new → (status ≡ class_in_turn s) ⊎ (status ≡ 71)
 
-abbrev pub CompletesMap : List (List ℕ) → FilesSeen → FilesSeen → SinksSeen → SinksSeen → ℕ → Type 0
-CompletesMap words old new sinks_old sinks_new status =
-    (image : Layout) → CanMap words old image → NothingRose old new sinks_old sinks_new → (status ≡ 0) ⊎ (status ≡ 71)
+abbrev pub CompletesReplay : List (List ℕ) → Seen → Seen → ℕ → Type 0
+CompletesReplay words old new status = CanReplay words old.files → NothingRose old new → (status ≡ 0) ⊎ (status ≡ 71)
+
+abbrev pub CompletesMap : List (List ℕ) → Seen → Seen → ℕ → Type 0
+CompletesMap words old new status = (image : Layout) → CanMap words old.files image → NothingRose old new → (status ≡ 0) ⊎ (status ≡ 71)

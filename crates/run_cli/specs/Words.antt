@@ -1,8 +1,8 @@
 -- What the words of a command say: its options and their ranges (this project's own).
-use Rattle.std.specs.Prelude.{◌≡◌, ◌⊎◌, ℕ, List, [], ◌∷◌, Option, None, Some, codes}
+use Rattle.std.specs.Prelude.{◌≡◌, ℕ, List, [], ◌∷◌, Option, None, Some, codes}
 use Rattle.command_options.specs.Given.{Known, Given, IsRead, required_option, other_option, value_given}
 use Rattle.command_options.specs.Numbers.{Tells}
-use Rattle.run_cli.specs.Seen.{ImageAsked, OptionsSeen}
+use Rattle.run_cli.specs.Asked.{ImageAsked, SetupAsked, RunAsked, ReplayAsked, Asked, Run, Replay, Inspect}
 
 abbrev pub run_table : List Known
 run_table =
@@ -18,6 +18,14 @@ run_table =
     ∷ other_option (codes "heap")
     ∷ []
 
+abbrev pub replay_table : List Known
+replay_table =
+    required_option (codes "image")
+    ∷ required_option (codes "report")
+    ∷ other_option (codes "input")
+    ∷ other_option (codes "policy")
+    ∷ []
+
 abbrev pub map_table : List Known
 map_table =
     required_option (codes "image")
@@ -31,50 +39,51 @@ abbrev pub IsNumber : ℕ → ℕ → ℕ → Option (List ℕ) → ℕ → Type
 IsNumber low high usual None n = n ≡ usual
 IsNumber low high usual (Some text) n = Tells text low high n
 
--- the image that the options ask for
+-- what options that are given ask for: an image, a setup, a run, a replay
 pub record AskForImage (given : List Given) (asked : ImageAsked) : Type 0 where
   pub name : value_given given (codes "image") ≡ Some asked.name
   pub cores : IsNumber 1 8 1 (value_given given (codes "cores")) asked.cores
   pub stack : IsNumber 1 4096 16 (value_given given (codes "stack")) asked.stack
   pub heap : IsNumber 0 4096 256 (value_given given (codes "heap")) asked.heap
 
--- the run that they ask for
-pub record AskForRun (given : List Given) (o : OptionsSeen) : Type 0 where
+pub record AskForSetup (given : List Given) (o : SetupAsked) : Type 0 where
   pub image : AskForImage given o.image
   pub input : value_given given (codes "input") ≡ o.input
   pub policy : value_given given (codes "policy") ≡ o.policy
-  pub lane : IsNumber 1 4096 64 (value_given given (codes "lane")) o.lane
-  pub quantum : IsNumber 1 4096 64 (value_given given (codes "quantum")) o.quantum
   pub budget : IsNumber 1 1048576 1048576 (value_given given (codes "budget")) o.budget
   pub limit : IsNumber 1 4294967280 4294967280 (value_given given (codes "limit")) o.limit
 
--- the words after `run`, and those after `inspect`
-pub record AreRunOptions (rest : List (List ℕ)) (o : OptionsSeen) : Type 0 where
+pub record AskForRun (given : List Given) (o : RunAsked) : Type 0 where
+  pub setup : AskForSetup given o.setup
+  pub lane : IsNumber 1 4096 64 (value_given given (codes "lane")) o.lane
+  pub quantum : IsNumber 1 4096 64 (value_given given (codes "quantum")) o.quantum
+
+pub record AskForReplay (given : List Given) (o : ReplayAsked) : Type 0 where
+  pub image : value_given given (codes "image") ≡ Some o.image
+  pub report : value_given given (codes "report") ≡ Some o.report
+  pub input : value_given given (codes "input") ≡ o.input
+  pub policy : value_given given (codes "policy") ≡ o.policy
+
+-- the words after a command's name
+pub record AreOptions {O : Type 0} (table : List Known) (AskFor : List Given → O → Type 0) (rest : List (List ℕ)) (o : O) : Type 0 where
   pub given : List Given
-  pub read : IsRead run_table rest given
-  pub asks : AskForRun given o
+  pub read : IsRead table rest given
+  pub asks : AskFor given o
 
-pub record AreMapOptions (rest : List (List ℕ)) (asked : ImageAsked) : Type 0 where
-  pub given : List Given
-  pub read : IsRead map_table rest given
-  pub asks : AskForImage given asked
-
--- the words are `run` and these options, or `inspect` and these
-pub record Reads (words : List (List ℕ)) (o : OptionsSeen) : Type 0 where
+-- the words are a command's name, and its options
+pub record Says {O : Type 0} (name : List ℕ) (table : List Known) (AskFor : List Given → O → Type 0) (words : List (List ℕ)) (o : O) : Type 0 where
   pub rest : List (List ℕ)
-  pub words_are : words ≡ codes "run" ∷ rest
-  pub options : AreRunOptions rest o
+  pub words_are : words ≡ name ∷ rest
+  pub options : AreOptions table AskFor rest o
 
-pub record ReadsMap (words : List (List ℕ)) (asked : ImageAsked) : Type 0 where
-  pub rest : List (List ℕ)
-  pub words_are : words ≡ codes "inspect" ∷ rest
-  pub options : AreMapOptions rest asked
+-- the words ask for this
+abbrev pub Reads : List (List ℕ) → Asked → Type 0
+Reads words (Run o) = Says (codes "run") run_table AskForRun words o
+Reads words (Replay o) = Says (codes "replay") replay_table AskForReplay words o
+Reads words (Inspect asked) = Says (codes "inspect") map_table AskForImage words asked
 
--- they are those of a run of this image
-pub record ReadsRunOf (words : List (List ℕ)) (asked : ImageAsked) : Type 0 where
-  pub options : OptionsSeen
-  pub reads : Reads words options
-  pub image : options.image ≡ asked
-
-abbrev pub AsksForImage : List (List ℕ) → ImageAsked → Type 0
-AsksForImage words asked = ReadsRunOf words asked ⊎ ReadsMap words asked
+-- so without `run`
+abbrev pub ReadsOffline : List (List ℕ) → Asked → Type 0
+ReadsOffline words (Run o) = ⊥
+ReadsOffline words (Replay o) = Reads words (Replay o)
+ReadsOffline words (Inspect asked) = Reads words (Inspect asked)

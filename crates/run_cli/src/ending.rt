@@ -5,11 +5,12 @@ ghost use Rattle.run_cli.specs.Lines.{status_of};
 use crate::files::FileKind;
 use elf_image::ImageFault;
 use tag_policy::PolicyKind;
+use trap_report::ReportKind;
 
 /// How a command ended, each with one status and, for a refusal, one line.
 #[derive(Clone, Copy)]
 pub enum Ending {
-    /// The run ended, and all was written. The class of its outcome, at most 5.
+    /// All was done and written. The class of a run's outcome, at most 5; 0 for other commands.
     Class(u8),
     /// The words are not those of a command.
     Words,
@@ -20,6 +21,13 @@ pub enum Ending {
         kind: PolicyKind,
         table: u32,
         key: u8,
+    },
+    /// The report is not the text of its own order; the first place at which they differ.
+    Differs(u64),
+    /// This line of the report is bad, or the order of its units is not complete.
+    Report {
+        line: u32,
+        kind: ReportKind,
     },
     /// The file is longer than such a file may be.
     Long(FileKind),
@@ -41,6 +49,8 @@ impl Ending {
             Ending::Words => 64,
             Ending::Image(_) => 65,
             Ending::Policy { .. } => 66,
+            Ending::Differs(_) => 67,
+            Ending::Report { .. } => 68,
             Ending::Long(_) => 69,
             Ending::Memory => 71,
             Ending::Read(_) => 74,

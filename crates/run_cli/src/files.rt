@@ -1,19 +1,21 @@
-//! The files that a run reads.
-ghost use Rattle.std.specs.Prelude.{◌≡◌, ℕ, List, OnOk, IfOk, IfErr};
+//! The files that a command reads.
+ghost use Rattle.std.specs.Prelude.{◌≡◌, OnOk, IfOk, IfErr};
 ghost use Rattle.run_cli.specs.Seen.{files_seen};
 ghost use Rattle.run_cli.specs.Work.{most_bytes, IsContents};
-ghost use Rattle.run_cli.specs.Endings.{ComesTo, Caused};
+ghost use Rattle.run_cli.specs.Asked.{Asked};
+ghost use Rattle.run_cli.specs.Causes.{ComesTo, Caused};
 
 use crate::ending::Ending;
 use outside::{FileFault, Files};
 use std::alloc::Global;
 
-/// The files that a run reads, by the option that names each.
+/// The files that a command reads, by the option that names each.
 #[derive(Clone, Copy)]
 pub enum FileKind {
     Image,
     Policy,
     Input,
+    Report,
 }
 
 /// The most bytes that a file of this kind may have.
@@ -24,6 +26,7 @@ fn most_bytes(kind: FileKind) -> usize
         FileKind::Image => 33_554_432,
         FileKind::Policy => 65_536,
         FileKind::Input => 16_777_216,
+        FileKind::Report => 536_870_912,
     }
 }
 
@@ -36,8 +39,8 @@ pub fn read_file<F: Files>(
 ) -> Result<Vec<u8>, Ending>
     ensures read { IfOk result (λ bytes. IsContents (files_seen (F.held files.old) (F.faults files.old)) kind name.now bytes.items) }
     ensures same { OnOk result (files_seen (F.held files.new) (F.faults files.new) ≡ files_seen (F.held files.old) (F.faults files.old)) }
-    ensures refused { (words : List (List ℕ)) → ComesTo words (files_seen (F.held files.old) (F.faults files.old)) kind name.now
-        → IfErr result (Caused words (files_seen (F.held files.old) (F.faults files.old)) (files_seen (F.held files.new) (F.faults files.new))) }
+    ensures refused { (asked : Asked) → ComesTo asked (files_seen (F.held files.old) (F.faults files.old)) kind name.now
+        → IfErr result (Caused asked (files_seen (F.held files.old) (F.faults files.old)) (files_seen (F.held files.new) (F.faults files.new))) }
 {
     match files.read_all(alloc, name, most_bytes(kind)) {
         Ok(bytes) => Ok(bytes),

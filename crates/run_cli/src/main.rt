@@ -1,4 +1,5 @@
-//! Runs a guest program, writes its output, and then a report of its run; or shows the memory map of one.
+//! Runs a guest program, writes its output, and then a report of its run; or compares such a report with its own run; or shows the
+//! memory map of a program.
 #![tactic(auto)]
 
 mod deliver;
@@ -7,10 +8,13 @@ mod ending;
 mod files;
 pub mod laws;
 mod map_text;
+mod offline;
 mod options;
 mod prepare;
 mod refusal;
+mod replay;
 mod rotation;
+mod setup;
 #[cfg(test)]
 mod tests;
 mod words;

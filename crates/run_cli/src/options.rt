@@ -15,14 +15,12 @@ pub struct ImageOptions<'a> {
     ghost most_heap: { heap ≤ 4096 },
 }
 
-/// The options of a run: its image, the names of its other files, and its numbers in their ranges.
+/// What a run is of: its image, the names of its other files, and its numbers in their ranges.
 #[derive(Clone, Copy)]
-pub struct RunOptions<'a> {
+pub struct SetupOptions<'a> {
     pub image: ImageOptions<'a>,
     pub input: Option<&'a str>,
     pub policy: Option<&'a str>,
-    pub lane: u32,
-    pub quantum: u32,
     pub budget: u32,
     pub limit: u32,
     ghost some_budget: { 1 ≤ budget },
@@ -31,11 +29,28 @@ pub struct RunOptions<'a> {
     ghost most_limit: { limit ≤ 4294967280 },
 }
 
-/// What the words of a command line ask for.
+/// The options of a run.
 #[derive(Clone, Copy)]
-pub enum Command<'a> {
-    /// To run an image.
-    Run(RunOptions<'a>),
+pub struct RunOptions<'a> {
+    pub setup: SetupOptions<'a>,
+    pub lane: u32,
+    pub quantum: u32,
+}
+
+/// The files of a run whose numbers are in its report.
+#[derive(Clone, Copy)]
+pub struct ReplayOptions<'a> {
+    pub image: &'a str,
+    pub report: &'a str,
+    pub input: Option<&'a str>,
+    pub policy: Option<&'a str>,
+}
+
+/// What the words of a command line may ask for beside a run.
+#[derive(Clone, Copy)]
+pub enum OfflineCommand<'a> {
+    /// To compare a report with the run along its own order.
+    Replay(ReplayOptions<'a>),
     /// To show the memory map of an image.
     Inspect(ImageOptions<'a>),
 }

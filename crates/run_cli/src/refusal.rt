@@ -1,13 +1,16 @@
-//! The line of a refusal.
+//! The line of a refusal, and writing it.
 ghost use Rattle.std.specs.Prelude.{◌≡◌, ◌+◌, ◌≤◌, ◌∷◌, ◌++◌, [], codes, decimal, length};
 ghost use Rattle.arrayvec.specs.ArrayString.{array_string_len};
+ghost use Rattle.outside.specs.Sinks.{Told};
 ghost use Rattle.trap_report.specs.Fields.{rest_of_line};
+ghost use Rattle.run_cli.specs.Seen.{sink_seen};
 ghost use Rattle.run_cli.specs.Lines.{file_name, cause_fields, line_of};
 
 use crate::ending::Ending;
 use crate::files::FileKind;
 use arrayvec::ArrayString;
 use itoa::{Buffer, Integer};
+use outside::{Sink, write_whole};
 
 /// The most bytes of a line. The longest, of a fault of a policy, has 43.
 pub const ROOM: usize = 64;
@@ -21,6 +24,7 @@ fn file_name(kind: FileKind) -> &'static str
         FileKind::Image => "image",
         FileKind::Policy => "policy",
         FileKind::Input => "input",
+        FileKind::Report => "report",
     }
 }
 
@@ -65,6 +69,16 @@ fn push_cause(line: &mut ArrayString<ROOM>, ending: Ending)
             push_number(line, table);
             push_number(line, key);
         }
+        Ending::Differs(place) => {
+            push_field(line, "differs");
+            push_number(line, place);
+        }
+        Ending::Report { line: bad, kind } => {
+            push_field(line, "report");
+            push_number(line, bad);
+            push_number(line, kind.number());
+            push_field(line, kind.name());
+        }
         Ending::Long(kind) => {
             push_field(line, "long");
             push_field(line, file_name(kind));
@@ -87,4 +101,14 @@ pub fn refusal_line(ending: Ending) -> ArrayString<ROOM>
     push_cause(&mut line, ending);
     line.push_str("\n");
     line
+}
+
+/// Writes the line of a refusal, which stays the ending whether it is written whole or not.
+pub fn refused<R: Sink>(ending: Ending, report: &mut R) -> Ending
+    ensures same { result ≡ ending }
+    ensures told { Told (line_of ending) (sink_seen (R.written report.old) (R.faults report.old)) (sink_seen (R.written report.new) (R.faults report.new)) }
+{
+    let line = refusal_line(ending);
+    let _ = write_whole(report, line.as_str().as_bytes());
+    ending
 }

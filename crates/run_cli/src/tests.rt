@@ -12,6 +12,7 @@ mod maps;
 mod memory;
 mod policies;
 mod refusals;
+mod replays;
 
 /// The headers of a small image, up to the two sizes of its segment.
 const HEADERS: [u32; 17] = [
@@ -80,6 +81,13 @@ const HI_REPORT: &[u8] = b"taint-report 1\n\
     ends 1\n\
     0 exit 0\n\
     end\n";
+
+/// The map of its image.
+const HI_MAP: &[u8] = b"entry 00010000\n\
+    segment 00010000 00010028 rwx\n\
+    break 00011000 00111000\n\
+    stack 0 efff0000 f0000000\n\
+    words 279555\n";
 
 /// The program headers of an image: one of the processor's own, two that load, and the stack's.
 const ECHO_TABLE: [[u32; 8]; 4] = [
@@ -160,6 +168,12 @@ const FINE: &[u8] = b"traps 0\nends 1\n0 exit 0\nend\n";
 /// The words that run the guest.
 const RUN: [&str; 3] = ["run", "--image", "guest.elf"];
 
+/// The words that compare a report with the guest's run.
+const REPLAY: [&str; 5] = ["replay", "--image", "guest.elf", "--report", "report.txt"];
+
+/// What is written where they agree.
+const SAME: &[u8] = b"same\n";
+
 /// The files and the two sinks of a command.
 #[derive(Drop)]
 struct Surroundings {
@@ -235,7 +249,27 @@ fn plain<'a>(
     }
 }
 
-/// Runs a case, and compares what it left.
+/// Replays a report of a case, which is that of its own order.
+fn try_replay(rt: &impl Abort, alloc: Global, case: &Case<'_>, report: &[u8]) -> Result<(), Fail> {
+    let name = case.name;
+    let mut around = Surroundings::ample(alloc, case.image)?;
+    around.files.add(alloc, "input", case.input)?;
+    around.files.add(alloc, "policy.toml", case.policy)?;
+    around.files.add(alloc, "report.txt", report)?;
+    let mut words = strings(alloc, &REPLAY)?;
+    for files in case.options.chunks_exact(2) {
+        if files[0] == "--input" || files[0] == "--policy" {
+            words.push(String::from_str(alloc, files[0])?)?;
+            words.push(String::from_str(alloc, files[1])?)?;
+        }
+    }
+    assert_eq!(rt; around.status_of(alloc, &words), 0, "{name}");
+    assert_eq!(rt; around.out.bytes(), SAME, "{name}");
+    assert!(rt; around.report.bytes().is_empty(), "{name}");
+    Ok(())
+}
+
+/// Runs a case, compares what it left, and replays its report.
 fn try_case(rt: &impl Abort, alloc: Global, case: &Case<'_>) -> Result<(), Fail> {
     let name = case.name;
     let mut around = Surroundings::ample(alloc, case.image)?;
@@ -252,5 +286,5 @@ fn try_case(rt: &impl Abort, alloc: Global, case: &Case<'_>) -> Result<(), Fail>
     head.extend_from_slice(case.head)?;
     assert!(rt; report.starts_with(&head), "{name}");
     assert!(rt; report.ends_with(case.tail), "{name}");
-    Ok(())
+    try_replay(rt, alloc, case, report)
 }

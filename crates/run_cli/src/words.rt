@@ -1,14 +1,12 @@
 //! The words of a command line.
-ghost use Rattle.std.specs.Prelude.{◌≡◌, ◌≤◌, ℕ, List, MatchOption, IfOk, IfErr, IfSome, map, string_bytes};
+ghost use Rattle.std.specs.Prelude.{◌≡◌, ◌≤◌, ◌∷◌, ℕ, List, MatchOption, IfOk, IfErr, IfSome, map, string_bytes, codes};
 ghost use Rattle.command_options.specs.Given.{value_given};
-ghost use Rattle.run_cli.specs.Seen.{FilesSeen, ImageAsked, OptionsSeen, image_in, options_in};
-ghost use Rattle.run_cli.specs.Words.{IsNumber, AskForImage, AskForRun, AreRunOptions, AreMapOptions};
-ghost use Rattle.run_cli.specs.Endings.{Caused};
+ghost use Rattle.run_cli.specs.Asked.{ImageAsked, SetupAsked, RunAsked, ReplayAsked, Asked, image_in, setup_in, run_in, replay_in, asked_in};
+ghost use Rattle.run_cli.specs.Words.{IsNumber, AskForImage, AskForSetup, AskForRun, AskForReplay, AreOptions, run_table, replay_table, map_table, ReadsOffline};
 ghost use Rattle.run_cli.specs.Forms.{SaysNothing, words_ending};
-ghost use Rattle.run_cli.specs.Commands.{IsCommand};
 
 use crate::ending::Ending;
-use crate::options::{Command, ImageOptions, RunOptions};
+use crate::options::{ImageOptions, OfflineCommand, ReplayOptions, RunOptions, SetupOptions};
 use command_options::{OptionRow, Options, WordsFault, number_in, read_options};
 use std::alloc::Global;
 
@@ -52,6 +50,26 @@ const RUN: [OptionRow<'static>; 10] = [
     },
     OptionRow {
         name: "heap",
+        required: false,
+    },
+];
+
+/// The options of a replay.
+const REPLAY: [OptionRow<'static>; 4] = [
+    OptionRow {
+        name: "image",
+        required: true,
+    },
+    OptionRow {
+        name: "report",
+        required: true,
+    },
+    OptionRow {
+        name: "input",
+        required: false,
+    },
+    OptionRow {
+        name: "policy",
         required: false,
     },
 ];
@@ -103,18 +121,39 @@ fn image_asked<'a>(options: &Options<'a>) -> Option<ImageOptions<'a>>
     })
 }
 
-/// The run that the options ask for.
-fn run_asked<'a>(options: &Options<'a>) -> Option<RunOptions<'a>>
-    ensures { MatchOption result ((o : OptionsSeen) → AskForRun options.now o → ⊥) (λ o. AskForRun options.now (options_in o)) }
+/// The setup that the options ask for.
+fn setup_asked<'a>(options: &Options<'a>) -> Option<SetupOptions<'a>>
+    ensures { MatchOption result ((o : SetupAsked) → AskForSetup options.now o → ⊥) (λ o. AskForSetup options.now (setup_in o)) }
 {
-    Some(RunOptions {
+    Some(SetupOptions {
         image: image_asked(options)?,
         input: options.value("input"),
         policy: options.value("policy"),
-        lane: number(options, "lane", 1, 4096, 64)?,
-        quantum: number(options, "quantum", 1, 4096, 64)?,
         budget: number(options, "budget", 1, 1_048_576, 1_048_576)?,
         limit: number(options, "limit", 1, 4_294_967_280, 4_294_967_280)?,
+    })
+}
+
+/// The run that the options ask for.
+fn run_asked<'a>(options: &Options<'a>) -> Option<RunOptions<'a>>
+    ensures { MatchOption result ((o : RunAsked) → AskForRun options.now o → ⊥) (λ o. AskForRun options.now (run_in o)) }
+{
+    Some(RunOptions {
+        setup: setup_asked(options)?,
+        lane: number(options, "lane", 1, 4096, 64)?,
+        quantum: number(options, "quantum", 1, 4096, 64)?,
+    })
+}
+
+/// The replay that the options ask for.
+fn replay_asked<'a>(options: &Options<'a>) -> Option<ReplayOptions<'a>>
+    ensures { MatchOption result ((o : ReplayAsked) → AskForReplay options.now o → ⊥) (λ o. AskForReplay options.now (replay_in o)) }
+{
+    Some(ReplayOptions {
+        image: options.value("image")?,
+        report: options.value("report")?,
+        input: options.value("input"),
+        policy: options.value("policy"),
     })
 }
 
@@ -129,9 +168,9 @@ fn words_ending(fault: WordsFault) -> Ending
 }
 
 /// The options of a run, in the words after `run`.
-fn run_options<'a>(alloc: Global, rest: &'a [String]) -> Result<RunOptions<'a>, Ending>
-    ensures read { IfOk result (λ o. AreRunOptions (map string_bytes rest.entry.now) (options_in o)) }
-    ensures refused { IfErr result (SaysNothing ((o : OptionsSeen) → AreRunOptions (map string_bytes rest.entry.now) o → ⊥)) }
+pub fn run_options<'a>(alloc: Global, rest: &'a [String]) -> Result<RunOptions<'a>, Ending>
+    ensures read { IfOk result (λ o. AreOptions run_table AskForRun (map string_bytes rest.entry.now) (run_in o)) }
+    ensures refused { IfErr result (SaysNothing ((o : RunAsked) → AreOptions run_table AskForRun (map string_bytes rest.entry.now) o → ⊥)) }
 {
     match read_options(alloc, &RUN, rest) {
         Ok(options) => run_asked(&options).ok_or(Ending::Words),
@@ -139,10 +178,21 @@ fn run_options<'a>(alloc: Global, rest: &'a [String]) -> Result<RunOptions<'a>, 
     }
 }
 
+/// The options of a replay, in the words after `replay`.
+fn replay_options<'a>(alloc: Global, rest: &'a [String]) -> Result<ReplayOptions<'a>, Ending>
+    ensures read { IfOk result (λ o. AreOptions replay_table AskForReplay (map string_bytes rest.entry.now) (replay_in o)) }
+    ensures refused { IfErr result (SaysNothing ((o : ReplayAsked) → AreOptions replay_table AskForReplay (map string_bytes rest.entry.now) o → ⊥)) }
+{
+    match read_options(alloc, &REPLAY, rest) {
+        Ok(options) => replay_asked(&options).ok_or(Ending::Words),
+        Err(fault) => Err(words_ending(fault)),
+    }
+}
+
 /// The options of a map, in the words after `inspect`.
 fn map_options<'a>(alloc: Global, rest: &'a [String]) -> Result<ImageOptions<'a>, Ending>
-    ensures read { IfOk result (λ o. AreMapOptions (map string_bytes rest.entry.now) (image_in o)) }
-    ensures refused { IfErr result (SaysNothing ((asked : ImageAsked) → AreMapOptions (map string_bytes rest.entry.now) asked → ⊥)) }
+    ensures read { IfOk result (λ o. AreOptions map_table AskForImage (map string_bytes rest.entry.now) (image_in o)) }
+    ensures refused { IfErr result (SaysNothing ((o : ImageAsked) → AreOptions map_table AskForImage (map string_bytes rest.entry.now) o → ⊥)) }
 {
     match read_options(alloc, &INSPECT, rest) {
         Ok(options) => image_asked(&options).ok_or(Ending::Words),
@@ -150,17 +200,29 @@ fn map_options<'a>(alloc: Global, rest: &'a [String]) -> Result<ImageOptions<'a>
     }
 }
 
-/// What the words of a command line ask for.
-pub fn read_command<'a>(alloc: Global, words: &'a [String]) -> Result<Command<'a>, Ending>
-    ensures read { IfOk result (IsCommand (map string_bytes words.entry.now)) }
-    ensures refused { (files : FilesSeen) → IfErr result (Caused (map string_bytes words.entry.now) files files) }
+/// The words after `run`, where that is the first one.
+pub fn words_after_run<'a>(words: &'a [String]) -> Option<&'a [String]>
+    ensures { MatchOption result ((rest : List (List ℕ)) → map string_bytes words.entry.now ≡ codes "run" ∷ rest → ⊥)
+        (λ rest. map string_bytes words.entry.now ≡ codes "run" ∷ map string_bytes rest.now) }
+{
+    let (command, rest) = words.split_first()?;
+    match command.as_str() {
+        "run" => Some(rest),
+        _ => None,
+    }
+}
+
+/// What the words of a command line ask for beside a run.
+pub fn read_offline<'a>(alloc: Global, words: &'a [String]) -> Result<OfflineCommand<'a>, Ending>
+    ensures read { IfOk result (λ command. ReadsOffline (map string_bytes words.entry.now) (asked_in command)) }
+    ensures refused { IfErr result (SaysNothing ((asked : Asked) → ReadsOffline (map string_bytes words.entry.now) asked → ⊥)) }
 {
     let Some((command, rest)) = words.split_first() else {
         return Err(Ending::Words);
     };
     match command.as_str() {
-        "run" => Ok(Command::Run(run_options(alloc, rest)?)),
-        "inspect" => Ok(Command::Inspect(map_options(alloc, rest)?)),
+        "replay" => Ok(OfflineCommand::Replay(replay_options(alloc, rest)?)),
+        "inspect" => Ok(OfflineCommand::Inspect(map_options(alloc, rest)?)),
         _ => Err(Ending::Words),
     }
 }

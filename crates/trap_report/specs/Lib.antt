@@ -8,6 +8,7 @@ pub mod Difference
 pub mod Forms
 pub mod Reading
 pub mod Saved
+pub mod ReportKinds
 pub mod ReportLaws
 pub mod Matching
 pub mod Walking

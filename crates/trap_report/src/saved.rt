@@ -1,4 +1,6 @@
 //! What is read of a report.
+ghost use Rattle.std.specs.Prelude.{◌≡◌, ◌≤◌, length};
+ghost use Rattle.trap_report.specs.ReportKinds.{report_kind_number, report_kind_name};
 
 use order_core::Order;
 
@@ -28,6 +30,37 @@ pub enum ReportKind {
     TooLong = 5,
     /// The order of the units is not complete; only a run tells this.
     Order = 6,
+}
+
+impl ReportKind {
+    /// The kind's number, from 1 to 6.
+    pub fn number(self) -> u8
+        ensures { result ≡ report_kind_number self }
+    {
+        match self {
+            ReportKind::Version => 1,
+            ReportKind::Shape => 2,
+            ReportKind::Number => 3,
+            ReportKind::Truncated => 4,
+            ReportKind::TooLong => 5,
+            ReportKind::Order => 6,
+        }
+    }
+
+    /// The kind's name, as it stands here.
+    pub fn name(self) -> &'static str
+        ensures name { result.now ≡ report_kind_name self }
+        ensures short { length result.now ≤ 9 }
+    {
+        match self {
+            ReportKind::Version => "Version",
+            ReportKind::Shape => "Shape",
+            ReportKind::Number => "Number",
+            ReportKind::Truncated => "Truncated",
+            ReportKind::TooLong => "TooLong",
+            ReportKind::Order => "Order",
+        }
+    }
 }
 
 /// Why a report could not be read.

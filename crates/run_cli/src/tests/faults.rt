@@ -1,36 +1,98 @@
 //! Calls of the files and of the sinks that fail, each in turn, and sinks with little room.
 use super::*;
 
+/// A command on `hi` that is not refused: its words, the line where each of its readings fails, in their order, and what it
+/// writes.
+#[derive(Clone, Copy)]
+struct Done<'a> {
+    words: &'a [&'a str],
+    lines: &'a [&'a [u8]],
+    out: &'a [u8],
+    report: &'a [u8],
+}
+
+/// One of each command.
+fn all_done() -> [Done<'static>; 3] {
+    [
+        Done {
+            words: &[
+                "run",
+                "--image=guest.elf",
+                "--input=input",
+                "--policy=policy.toml",
+            ],
+            lines: &[
+                b"refused 74 read image\n",
+                b"refused 74 read policy\n",
+                b"refused 74 read input\n",
+            ],
+            out: HI_OUTPUT,
+            report: HI_REPORT,
+        },
+        Done {
+            words: &[
+                "replay",
+                "--image=guest.elf",
+                "--input=input",
+                "--policy=policy.toml",
+                "--report=report.txt",
+            ],
+            lines: &[
+                b"refused 74 read report\n",
+                b"refused 74 read image\n",
+                b"refused 74 read policy\n",
+                b"refused 74 read input\n",
+            ],
+            out: SAME,
+            report: b"",
+        },
+        Done {
+            words: &["inspect", "--image=guest.elf"],
+            lines: &[b"refused 74 read image\n"],
+            out: HI_MAP,
+            report: b"",
+        },
+    ]
+}
+
+/// The files of these commands, where the reading of this number fails, and sinks with this room.
+fn around(
+    alloc: Global,
+    reading: u64,
+    out: usize,
+    report: usize,
+) -> Result<Surroundings, AllocError> {
+    let bytes = image(alloc, &HI)?;
+    let mut files = MemFiles::new(alloc, &[reading])?;
+    files.add(alloc, "guest.elf", &bytes)?;
+    files.add(alloc, "policy.toml", b"version = 1\npolicy = []\n")?;
+    files.add(alloc, "input", b"")?;
+    files.add(alloc, "report.txt", HI_REPORT)?;
+    Ok(Surroundings {
+        files,
+        out: MemSink::new(alloc, out, &[])?,
+        report: MemSink::new(alloc, report, &[])?,
+    })
+}
+
+/// No reading has this number.
+const NEVER: u64 = 1000;
+
 #[test]
 fn each_reading_fails_in_turn(rt: HostRuntime) -> Result<(), Fail> {
     let alloc = rt.alloc();
-    let bytes = image(alloc, &HI)?;
-    let words = [
-        "run",
-        "--image",
-        "guest.elf",
-        "--input",
-        "input",
-        "--policy",
-        "policy.toml",
-    ];
-    let lines: [&[u8]; 3] = [
-        b"refused 74 read image\n",
-        b"refused 74 read policy\n",
-        b"refused 74 read input\n",
-    ];
-    for (call, line) in (0..).zip(lines) {
-        let mut around = Surroundings::ample(alloc, &bytes)?;
-        around.files = MemFiles::new(alloc, &[call])?;
-        around.files.add(alloc, "guest.elf", &bytes)?;
-        around
-            .files
-            .add(alloc, "policy.toml", b"version = 1\npolicy = []\n")?;
-        around.files.add(alloc, "input", b"")?;
-        assert_eq!(rt; around.command(alloc, &words)?, 74, "call {call}");
-        assert_eq!(rt; around.files.calls(), call + 1);
-        assert_eq!(rt; around.out.calls(), 0, "call {call}");
-        assert_eq!(rt; around.report.bytes(), line);
+    for done in all_done() {
+        let mut readings = 0;
+        for line in done.lines {
+            let mut around = around(alloc, readings, 8192, 8192)?;
+            assert_eq!(rt; around.command(alloc, done.words)?, 74, "{readings}");
+            readings = around.files.calls();
+            assert_eq!(rt; around.out.calls(), 0);
+            assert_eq!(rt; around.report.bytes(), *line);
+        }
+        let mut around = around(alloc, readings, 8192, 8192)?;
+        assert_eq!(rt; around.command(alloc, done.words)?, 0);
+        assert_eq!(rt; around.files.calls(), readings);
     }
     Ok(())
 }
@@ -38,35 +100,34 @@ fn each_reading_fails_in_turn(rt: HostRuntime) -> Result<(), Fail> {
 #[test]
 fn each_write_of_the_output_fails_in_turn(rt: HostRuntime) -> Result<(), Fail> {
     let alloc = rt.alloc();
-    let bytes = image(alloc, &HI)?;
-    let mut covered = 0;
-    for call in 0..1000 {
-        let mut around = Surroundings::ample(alloc, &bytes)?;
-        around.out = MemSink::new(alloc, 3, &[call])?;
-        let status = around.command(alloc, &RUN)?;
-        if around.out.calls() <= call {
-            assert_eq!(rt; status, 0);
-            covered = call;
-            break;
+    for done in all_done() {
+        let mut covered = 0;
+        for call in 0..1000 {
+            let mut around = around(alloc, NEVER, 8192, 8192)?;
+            around.out = MemSink::new(alloc, done.out.len(), &[call])?;
+            let status = around.command(alloc, done.words)?;
+            if around.out.calls() <= call {
+                assert_eq!(rt; status, 0);
+                covered = call;
+                break;
+            }
+            let written = around.out.bytes();
+            assert_eq!(rt; status, 75, "call {call}");
+            assert!(rt; done.out.starts_with(written), "call {call}");
+            assert!(rt; written.len() < done.out.len(), "call {call}");
+            assert_eq!(rt; around.report.calls(), 0, "call {call}");
         }
-        let written = around.out.bytes();
-        assert_eq!(rt; status, 75, "call {call}");
-        assert!(rt; HI_OUTPUT.starts_with(written), "call {call}");
-        assert!(rt; written.len() < HI_OUTPUT.len(), "call {call}");
-        assert_eq!(rt; written.is_empty(), call == 0, "call {call}");
-        assert_eq!(rt; around.report.calls(), 0, "call {call}");
+        assert!(rt; covered >= 1);
     }
-    assert!(rt; covered >= 1);
     Ok(())
 }
 
 #[test]
 fn each_write_of_the_report_fails_in_turn(rt: HostRuntime) -> Result<(), Fail> {
     let alloc = rt.alloc();
-    let bytes = image(alloc, &HI)?;
     let mut covered = 0;
     for call in 0..1000 {
-        let mut around = Surroundings::ample(alloc, &bytes)?;
+        let mut around = around(alloc, NEVER, 8192, 8192)?;
         around.report = MemSink::new(alloc, 349, &[call])?;
         let status = around.command(alloc, &RUN)?;
         assert_eq!(rt; around.out.bytes(), HI_OUTPUT, "call {call}");
@@ -79,7 +140,6 @@ fn each_write_of_the_report_fails_in_turn(rt: HostRuntime) -> Result<(), Fail> {
         assert_eq!(rt; status, 75, "call {call}");
         assert!(rt; HI_REPORT.starts_with(written), "call {call}");
         assert!(rt; written.len() < HI_REPORT.len(), "call {call}");
-        assert_eq!(rt; written.is_empty(), call == 0, "call {call}");
     }
     assert!(rt; covered >= 1);
     Ok(())
@@ -88,30 +148,52 @@ fn each_write_of_the_report_fails_in_turn(rt: HostRuntime) -> Result<(), Fail> {
 #[test]
 fn little_room_cuts_the_output(rt: HostRuntime) -> Result<(), Fail> {
     let alloc = rt.alloc();
-    let bytes = image(alloc, &HI)?;
-    for room in 0..3 {
-        let mut around = Surroundings::ample(alloc, &bytes)?;
-        around.out = MemSink::new(alloc, room, &[])?;
-        assert_eq!(rt; around.command(alloc, &RUN)?, 75, "room {room}");
-        assert!(rt; HI_OUTPUT.starts_with(around.out.bytes()), "room {room}");
-        assert_eq!(rt; around.out.bytes().len(), room);
-        assert_eq!(rt; around.report.calls(), 0, "room {room}");
+    for done in all_done() {
+        for room in 0..done.out.len() {
+            let mut around = around(alloc, NEVER, room, 8192)?;
+            assert_eq!(rt; around.command(alloc, done.words)?, 75, "room {room}");
+            assert!(rt; done.out.starts_with(around.out.bytes()), "room {room}");
+            assert_eq!(rt; around.out.bytes().len(), room);
+            assert_eq!(rt; around.report.calls(), 0, "room {room}");
+        }
     }
     Ok(())
 }
 
+/// Adds 1 to a word until its budget is spent.
+const COUNT: [u32; 9] = [
+    0x000112b7, 0x00100313, 0x3e800393, 0x0062a02f, 0xfff38393, 0xfe039ce3, 0x00000513, 0x05d00893,
+    0x00000073,
+];
+
+/// Runs it for a thousand units, with this room for the report and one write of it that fails.
+fn run_long(alloc: Global, room: usize, call: u64) -> Result<(u8, Surroundings), AllocError> {
+    let bytes = image(alloc, &COUNT)?;
+    let mut around = Surroundings::ample(alloc, &bytes)?;
+    around.report = MemSink::new(alloc, room, &[call])?;
+    let words = ["run", "--image=guest.elf", "--budget=1000"];
+    let status = around.command(alloc, &words)?;
+    Ok((status, around))
+}
+
 #[test]
-fn little_room_cuts_the_report(rt: HostRuntime) -> Result<(), Fail> {
+fn rooms_at_the_border_of_each_piece_cut_a_long_report(rt: HostRuntime) -> Result<(), Fail> {
     let alloc = rt.alloc();
-    let bytes = image(alloc, &HI)?;
-    for tens in 0..35 {
-        let room = 10 * tens;
-        let mut around = Surroundings::ample(alloc, &bytes)?;
-        around.report = MemSink::new(alloc, room, &[])?;
-        assert_eq!(rt; around.command(alloc, &RUN)?, 75, "room {room}");
-        assert_eq!(rt; around.out.bytes(), HI_OUTPUT, "room {room}");
-        assert!(rt; HI_REPORT.starts_with(around.report.bytes()), "room {room}");
-        assert_eq!(rt; around.report.bytes().len(), room);
+    let (status, whole) = run_long(alloc, 65_536, NEVER)?;
+    assert_eq!(rt; status, 4);
+    let pieces = whole.report.calls();
+    assert!(rt; pieces >= 2);
+    for call in 0..pieces {
+        // What stands before the piece of this number.
+        let (_, cut) = run_long(alloc, 65_536, call)?;
+        let border = cut.report.bytes().len();
+        for room in border.saturating_sub(1)..border + 2 {
+            let (status, left) = run_long(alloc, room, NEVER)?;
+            let text = whole.report.bytes();
+            assert_eq!(rt; status, 75, "room {room}");
+            assert!(rt; text.starts_with(left.report.bytes()), "room {room}");
+            assert_eq!(rt; left.report.bytes().len(), room);
+        }
     }
     Ok(())
 }
@@ -126,7 +208,7 @@ struct Refusal<'a> {
 }
 
 /// A refusal of each kind, where this image has other flags.
-fn refusals(flags: &[u8]) -> [Refusal<'_>; 4] {
+fn refusals(flags: &[u8]) -> [Refusal<'_>; 6] {
     [
         Refusal {
             words: &["run"],
@@ -151,6 +233,18 @@ fn refusals(flags: &[u8]) -> [Refusal<'_>; 4] {
             image: b"",
             status: 74,
             line: b"refused 74 read image\n",
+        },
+        Refusal {
+            words: &["replay", "--image=guest.elf", "--report=guest.elf"],
+            image: b"",
+            status: 68,
+            line: b"refused 68 report 1 4 Truncated\n",
+        },
+        Refusal {
+            words: &["inspect", "--image=guest.elf"],
+            image: b"",
+            status: 65,
+            line: b"refused 65 image 1 Short\n",
         },
     ]
 }

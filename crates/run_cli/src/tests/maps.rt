@@ -1,12 +1,6 @@
 //! Memory maps of images.
 use super::*;
 
-const HI_MAP: &[u8] = b"entry 00010000\n\
-    segment 00010000 00010028 rwx\n\
-    break 00011000 00111000\n\
-    stack 0 efff0000 f0000000\n\
-    words 279555\n";
-
 const ECHO_MAP: &[u8] = b"entry 000100b4\n\
     segment 00010000 000100f0 r-x\n\
     segment 00011000 00011010 rw-\n\
@@ -75,23 +69,6 @@ fn maps_are_told(rt: HostRuntime) -> Result<(), Fail> {
         assert_eq!(rt; around.command(alloc, words)?, status, "{words:?}");
         assert_eq!(rt; around.out.bytes(), out, "{words:?}");
         assert_eq!(rt; around.report.bytes(), report, "{words:?}");
-    }
-    Ok(())
-}
-
-#[test]
-fn little_room_cuts_a_map(rt: HostRuntime) -> Result<(), Fail> {
-    let alloc = rt.alloc();
-    let hi = image(alloc, &HI)?;
-    for tens in 0..11 {
-        let room = 10 * tens;
-        let mut around = Surroundings::ample(alloc, &hi)?;
-        around.out = MemSink::new(alloc, room, &[])?;
-        let words = ["inspect", "--image", "guest.elf"];
-        assert_eq!(rt; around.command(alloc, &words)?, 75, "room {room}");
-        assert!(rt; HI_MAP.starts_with(around.out.bytes()), "room {room}");
-        assert_eq!(rt; around.out.bytes().len(), room);
-        assert_eq!(rt; around.report.calls(), 0, "room {room}");
     }
     Ok(())
 }

@@ -12,8 +12,8 @@ struct Answer<'a> {
     report: &'a [u8],
 }
 
-/// A run, and a refusal of each kind.
-fn answers<'a>(hi: &'a [u8], flags: &'a [u8]) -> [Answer<'a>; 5] {
+/// A run, a replay, a map, and a refusal of each kind.
+fn answers<'a>(hi: &'a [u8], flags: &'a [u8]) -> [Answer<'a>; 7] {
     [
         Answer {
             words: &RUN,
@@ -21,6 +21,20 @@ fn answers<'a>(hi: &'a [u8], flags: &'a [u8]) -> [Answer<'a>; 5] {
             status: 0,
             out: HI_OUTPUT,
             report: HI_REPORT,
+        },
+        Answer {
+            words: &REPLAY,
+            image: hi,
+            status: 0,
+            out: SAME,
+            report: b"",
+        },
+        Answer {
+            words: &["inspect", "--image", "guest.elf"],
+            image: hi,
+            status: 0,
+            out: HI_MAP,
+            report: b"",
         },
         Answer {
             words: &["run"],
@@ -61,6 +75,7 @@ fn images(alloc: Global) -> Result<(Vec<u8>, Vec<u8>), AllocError> {
 /// The status of a command, and what it left.
 fn answered(alloc: Global, answer: &Answer<'_>) -> Result<(u8, Surroundings), AllocError> {
     let mut around = Surroundings::ample(alloc, answer.image)?;
+    around.files.add(alloc, "report.txt", HI_REPORT)?;
     let status = around.command(alloc, answer.words)?;
     Ok((status, around))
 }

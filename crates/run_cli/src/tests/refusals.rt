@@ -68,7 +68,7 @@ fn other_files_are_refused(rt: HostRuntime) -> Result<(), Fail> {
 fn other_words_are_refused(rt: HostRuntime) -> Result<(), Fail> {
     let alloc = rt.alloc();
     let bytes = image(alloc, &HI)?;
-    let cases: [&[&str]; 19] = [
+    let cases: [&[&str]; 23] = [
         &[],
         &["--help"],
         &["run"],
@@ -88,6 +88,15 @@ fn other_words_are_refused(rt: HostRuntime) -> Result<(), Fail> {
         &["run", "--image", "guest.elf", "--other", "1"],
         &["Run", "--image", "guest.elf"],
         &["--image", "guest.elf", "run"],
+        &["replay", "--image", "guest.elf"],
+        &["replay", "--report", "guest.elf"],
+        &[
+            "replay",
+            "--image=guest.elf",
+            "--report=guest.elf",
+            "--cores=1",
+        ],
+        &["gen", "--kind=1", "--number=0"],
     ];
     for words in cases {
         let mut around = Surroundings::ample(alloc, &bytes)?;

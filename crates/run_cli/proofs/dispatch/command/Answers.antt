@@ -1,8 +1,14 @@
-use Rattle.run_cli.proofs.Completing.{completes, completes_map}
+use Rattle.run_cli.proofs.Concluding.{offline_ended}
+use Rattle.run_cli.proofs.Completes.{completes, completes_replay, completes_map}
 use Rattle.run_cli.proofs.dispatch.command.Goals as goal
 
-pub returns-clause-completes : goal.returns-clause-completes
-returns-clause-completes g c = rw c.status.ensures (completes _ _ _ _ _ c.conclude.result c.conclude.ensures)
+pub returns-in-Some-clause-ended : goal.returns-in-Some-clause-ended
+returns-in-Some-clause-ended g c = (c.run_words.result, c.status.ensures, c.run_words.ensures _ c.in-Some.ensures)
 
-pub returns-clause-completes_map : goal.returns-clause-completes_map
-returns-clause-completes_map g c = rw c.status.ensures (completes_map _ _ _ _ _ c.conclude.result c.conclude.ensures)
+pub returns-in-Some-clause-completes : goal.returns-in-Some-clause-completes
+returns-in-Some-clause-completes g c = rw c.status.ensures (completes _ _ _ c.run_words.result (c.run_words.ensures _ c.in-Some.ensures))
+
+pub returns-in-None-clause-ended : goal.returns-in-None-clause-ended
+returns-in-None-clause-ended g c =
+    let ended = c.offline.ensures.ended in
+    (ended.0, ended.1, offline_ended _ _ _ ended.0 c.in-None.ensures ended.2)

@@ -1,5 +1,7 @@
+use Rattle.std.proofs.Common.{refl}
 use Rattle.std.proofs.lemmas.Result.{err_from_is_err_and}
 use Rattle.machine.proofs.TrapRuns.{traps_hold_on}
+use Rattle.run_cli.specs.Asked.{Run, run_in}
 use Rattle.run_cli.proofs.prepare.prepare.Goals as goal
 
 pub returns-in-Ok-clause-order : goal.returns-in-Ok-clause-order
@@ -10,6 +12,6 @@ returns-in-Ok-clause-order g c = record {
 }
 
 pub returns-in_err-setup-clause-refused : goal.returns-in_err-setup-clause-refused
-returns-in_err-setup-clause-refused g c words reads =
+returns-in_err-setup-clause-refused g c =
     let p = err_from_is_err_and c.from_residual.result c.from_residual.ensures.1 in
-    rw (p.1, p.2) (c.in_err-setup.ensures.refused words reads)
+    rw (p.1, p.2) (c.in_err-setup.ensures.refused (Run (run_in c.args.options.now)) refl)

@@ -1,9 +1,0 @@
-use Rattle.std.proofs.Common.{refl}
-use Rattle.std.proofs.lemmas.Result.{err_from_is_err_and}
-use Rattle.run_cli.specs.Seen.{image_in}
-use Rattle.run_cli.proofs.prepare.read_image.Goals as goal
-
-pub returns-in_err-bytes-clause-refused : goal.returns-in_err-bytes-clause-refused
-returns-in_err-bytes-clause-refused g c words asks =
-    let p = err_from_is_err_and c.from_residual.result c.from_residual.ensures.1 in
-    rw (p.1, p.2) (c.in_err-bytes.ensures.refused words (record { asked = image_in c.args.options.now; asks = asks; named = refl }))
