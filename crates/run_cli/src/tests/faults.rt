@@ -149,7 +149,10 @@ fn each_write_of_the_report_fails_in_turn(rt: HostRuntime) -> Result<(), Fail> {
 fn little_room_cuts_the_output(rt: HostRuntime) -> Result<(), Fail> {
     let alloc = rt.alloc();
     for done in all_done() {
-        for room in 0..done.out.len() {
+        for room in [0, 1, 2, 4, 29, 100] {
+            if room >= done.out.len() {
+                break;
+            }
             let mut around = around(alloc, NEVER, room, 8192)?;
             assert_eq!(rt; around.command(alloc, done.words)?, 75, "room {room}");
             assert!(rt; done.out.starts_with(around.out.bytes()), "room {room}");
@@ -166,12 +169,12 @@ const COUNT: [u32; 9] = [
     0x00000073,
 ];
 
-/// Runs it for a thousand units, with this room for the report and one write of it that fails.
+/// Runs it for 700 units, with this room for the report and one write of it that fails.
 fn run_long(alloc: Global, room: usize, call: u64) -> Result<(u8, Surroundings), AllocError> {
     let bytes = image(alloc, &COUNT)?;
     let mut around = Surroundings::ample(alloc, &bytes)?;
     around.report = MemSink::new(alloc, room, &[call])?;
-    let words = ["run", "--image=guest.elf", "--budget=1000"];
+    let words = ["run", "--image=guest.elf", "--budget=700"];
     let status = around.command(alloc, &words)?;
     Ok((status, around))
 }
