@@ -1,6 +1,6 @@
 -- A finished run in the order of the canonical merge of its logs: there is one of each finished run, and it has as many units as the logs
 -- have entries, which are not many.
-use Rattle.std.proofs.Common.{◌≡◌, ℕ, ◌<◌, ◌^◌, List, length, sym, ap, ◌∙◌, subst, arith}
+use Rattle.std.proofs.Common.{◌≡◌, ◌<◌, ◌^◌, List, length, sym, ap, ◌∙◌, subst, arith}
 use Rattle.std.proofs.lemmas.List.FromFn.{length-map-range_with_len}
 use Rattle.order_core.specs.declared.entry.Entry.{Entry}
 use Rattle.order_core.specs.Logs.{entry_count}
@@ -8,9 +8,8 @@ use Rattle.order_core.specs.LegalMerge.{HasLegalMerge}
 use Rattle.order_core.specs.CanonicalMerge.{canonical}
 use Rattle.order_core.proofs.Stepping.{legal_length}
 use Rattle.machine.specs.Setups.{Setup, IsSetup, core_count}
-use Rattle.machine.specs.States.{State}
 use Rattle.machine.specs.Runs.{along, entries, log_along, logs_along}
-use Rattle.machine.specs.Outcomes.{Summary, summaries, output}
+use Rattle.machine.specs.Outcomes.{summaries, output}
 use Rattle.machine.specs.TraceLaws.{IsSameRun}
 use Rattle.machine.specs.FinishedRuns.{FinishedRun, IsFinishedRun}
 use Rattle.machine.proofs.Along.{playable_short}

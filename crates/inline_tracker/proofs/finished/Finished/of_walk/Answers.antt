@@ -1,6 +1,5 @@
-use Rattle.std.proofs.Common.{◌≡◌, ℕ, ◌<◌, ◌^◌, [], length, refl, sym, ap, ◌∙◌, arith}
+use Rattle.std.proofs.Common.{◌≡◌, [], refl, sym, ◌∙◌, arith}
 use Rattle.order_core.specs.Logs.{logs_of, entry_count}
-use Rattle.order_core.specs.CanonicalMerge.{canonical}
 use Rattle.machine.specs.FinishedRuns.{FinishedRun}
 use Rattle.inline_tracker.specs.Walked.{walked_run}
 use Rattle.inline_tracker.proofs.Walked.{units_are, units_small}
