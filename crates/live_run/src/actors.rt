@@ -2,8 +2,8 @@
 ghost use Rattle.std.specs.Prelude.{◌≤◌};
 ghost use Rattle.live_run.specs.Seats.{AreSeats, HaveEnded};
 
-use crate::drive::drive;
 use crate::objects::Objects;
+use crate::rounds::drive;
 use crate::threads::run_in_threads;
 use hart_actor::HartActor;
 use outside::Gate;

@@ -13,9 +13,12 @@ mod output;
 mod pair;
 mod parts;
 mod room;
+mod rounds;
+mod running;
 mod tables;
 mod threads;
 mod work;
 
 pub use parts::{LiveParts, RunShape};
 pub use room::RunRoom;
+pub use running::{drive, run};

@@ -1,6 +1,6 @@
 use Rattle.std.proofs.Common.{◌≡◌, ℕ, ◌<◌, IsTrue, slice_get, Some}
 use Rattle.live_run.specs.Places.{AreSame}
-use Rattle.live_run.proofs.drive.go_round.Given as goal
+use Rattle.live_run.proofs.rounds.go_round.Given as goal
 
 abbrev pub invariant-loop-core : goal.invariant-loop-core
 invariant-loop-core g l = record {

@@ -1,6 +1,6 @@
 use Rattle.std.proofs.Common.{rules, arith}
 use Rattle.live_run.proofs.Keeping.{each_still, each_at, same_set, over_more, each_below}
-use Rattle.live_run.proofs.drive.go_round.Goals as goal
+use Rattle.live_run.proofs.rounds.go_round.Goals as goal
 
 pub pass_and_visit-visit-requires-after_bounds : goal.pass_and_visit-visit-requires-after_bounds
 pass_and_visit-visit-requires-after_bounds g c κs within =

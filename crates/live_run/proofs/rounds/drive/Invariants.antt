@@ -1,5 +1,5 @@
 use Rattle.live_run.specs.Places.{AreSame}
-use Rattle.live_run.proofs.drive.drive.Given as goal
+use Rattle.live_run.proofs.rounds.drive.Given as goal
 
 abbrev pub invariant-rounds : goal.invariant-rounds
 invariant-rounds g l = record {

@@ -1,6 +1,6 @@
 use Rattle.std.proofs.Common.{rules}
 use Rattle.live_run.proofs.Keeping.{each_still, same_lists_more}
-use Rattle.live_run.proofs.drive.drive.Goals as goal
+use Rattle.live_run.proofs.rounds.drive.Goals as goal
 
 pub go_round-harts_over-requires-clause-fits : goal.go_round-harts_over-requires-clause-fits
 go_round-harts_over-requires-clause-fits g c κs within =
