@@ -3,7 +3,6 @@
 
 mod actor;
 mod actors;
-mod drive;
 mod closing;
 mod ends;
 pub mod laws;
