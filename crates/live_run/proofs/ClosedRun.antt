@@ -10,13 +10,15 @@ use Rattle.ticket_table.specs.Words.{payload_of}
 use Rattle.ticket_table.specs.History.{of_caller}
 use Rattle.ticket_table.specs.Passes.{TableSeen, Closes}
 use Rattle.machine.specs.Setups.{Setup}
+use Rattle.inline_tracker.specs.Outcomes.{outcome_summary}
+use Rattle.inline_tracker.proofs.Lists.{map_twice}
 use Rattle.live_run.specs.declared.pair.Pair.{Pair}
 use Rattle.live_run.specs.declared.ends.Ends.{Ends}
 use Rattle.live_run.specs.declared.ends.Claims.{Claims}
 use Rattle.live_run.specs.declared.closing.Closed.{Closed}
 use Rattle.live_run.specs.Assembled.{CoreLeft, IsCoreLeft, StandsIn, AreAssembled}
 use Rattle.live_run.specs.Pairs.{left_in_pair}
-use Rattle.live_run.specs.Ends.{claims_in}
+use Rattle.live_run.specs.Ends.{outcome_in, claims_in}
 use Rattle.live_run.specs.Laying.{laid, IsWithin, pieces_in, pieces_of, AreLayable}
 use Rattle.live_run.specs.Closing.{AreReady, IsClosedRun}
 use Rattle.live_run.proofs.Spans.{all_append}
@@ -73,11 +75,14 @@ module _ (s : Setup) (pairs : List Pair) (memory tags : TableSeen) (ends : Ends)
         ∙ length-replicate (payload_of (slice_index words OUTPUT_WORD)) 0 ∙ size_is s pairs memory tags ends output ready words history closes;
   }
 
-  pub closed_run : (closed : Closed) → closed.logs ≡ ends.logs → closed.outcomes ≡ ends.outcomes → closed.output.items ≡ bytes → IsClosedRun s pairs memory tags closed
+  pub closed_run : (closed : Closed) → closed.logs ≡ ends.logs → closed.outcomes ≡ ends.outcomes → closed.output.items ≡ bytes → IsClosedRun s memory tags closed
   closed_run closed logs outcomes out = record {
-    logs = ap (λ list. list.items) logs ∙ ap (λ (e : Ends). e.logs.items) ready.ends_are;
-    outcomes = ap (λ list. list.items) outcomes ∙ ap (λ (e : Ends). e.outcomes.items) ready.ends_are;
+    cores = map left_in_pair pairs;
     drawn = history;
     served = tag_history;
+    logs = ap (λ list. map (λ log. log.items) list.items) logs ∙ ap (λ (e : Ends). map (λ log. log.items) e.logs.items) ready.ends_are
+        ∙ map_twice (λ log. log.items) (λ (pair : Pair). pair.entries) pairs ∙ sym (map_twice (λ (part : CoreLeft). part.log) left_in_pair pairs);
+    outcomes = ap (λ list. map outcome_summary list.items) outcomes ∙ ap (λ (e : Ends). map outcome_summary e.outcomes.items) ready.ends_are
+        ∙ map_twice outcome_summary outcome_in pairs ∙ sym (map_twice (λ (part : CoreLeft). part.summary) left_in_pair pairs);
     assembled = rw out assembled;
   }

@@ -19,3 +19,4 @@ pub mod CoreClaims
 pub mod PiecesApart
 pub mod RunClaims
 pub mod ClosedRun
+pub mod Readying

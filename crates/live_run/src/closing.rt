@@ -29,7 +29,7 @@ pub(crate) fn close_run(
     mut output: Bytes,
 ) -> Closed
     requires { (s : Setup) × (pairs : List Pair) × AreReady s pairs memory tags ends output }
-    ensures { (s : Setup) (pairs : List Pair) → AreReady s pairs memory tags ends output → IsClosedRun s pairs memory tags result }
+    ensures { (s : Setup) (pairs : List Pair) → AreReady s pairs memory tags ends output → IsClosedRun s memory tags result }
 {
     let Ends {
         logs,
