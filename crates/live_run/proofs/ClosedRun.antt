@@ -75,9 +75,8 @@ module _ (s : Setup) (pairs : List Pair) (memory tags : TableSeen) (ends : Ends)
         ∙ length-replicate (payload_of (slice_index words OUTPUT_WORD)) 0 ∙ size_is s pairs memory tags ends output ready words history closes;
   }
 
-  pub closed_run : (closed : Closed) → closed.logs ≡ ends.logs → closed.outcomes ≡ ends.outcomes → closed.output.items ≡ bytes → IsClosedRun s memory tags closed
+  pub closed_run : (closed : Closed) → closed.logs ≡ ends.logs → closed.outcomes ≡ ends.outcomes → closed.output.items ≡ bytes → IsClosedRun s (map left_in_pair pairs) memory tags closed
   closed_run closed logs outcomes out = record {
-    cores = map left_in_pair pairs;
     drawn = history;
     served = tag_history;
     logs = ap (λ list. map (λ log. log.items) list.items) logs ∙ ap (λ (e : Ends). map (λ log. log.items) e.logs.items) ready.ends_are

@@ -1,5 +1,5 @@
 -- The actors of one core after another are ended, and what they leave stands in the order of the cores.
-use Rattle.std.proofs.Common.{◌≡◌, ◌⊎◌, ℕ, zero, suc, ◌<◌, ◌≤◌, Some, List, [], ◌∷◌, ◌++◌, length, slice_get, drop, refl, sym, ap, ◌∙◌, subst, inl, inr, arith, length-append}
+use Rattle.std.proofs.Common.{◌≡◌, ◌⊎◌, ℕ, zero, suc, ◌<◌, ◌≤◌, Some, List, [], ◌∷◌, ◌++◌, length, slice_get, drop, refl, sym, ap, ap₂, ◌∙◌, subst, inl, inr, arith, length-append}
 use Rattle.std.specs.Prelude.{slice_index_or}
 use Rattle.std.specs.List.{remove}
 use Rattle.std.proofs.lemmas.List.{length-drop}
@@ -17,8 +17,8 @@ use Rattle.tag_actor.specs.Seen.{TagActorSeen}
 use Rattle.live_run.specs.declared.pair.Pair.{Pair}
 use Rattle.live_run.specs.declared.ends.Ends.{Ends}
 use Rattle.live_run.specs.Seats.{IsSeat}
-use Rattle.live_run.specs.Pairs.{IsPairLeft}
-use Rattle.live_run.specs.Ends.{AreAllLinked, outcome_in, claims_in, kept, ends_of, ArePairsLeft}
+use Rattle.live_run.specs.Pairs.{IsPairLeft, left_in_pair, left_by}
+use Rattle.live_run.specs.Ends.{AreAllLinked, outcome_in, claims_in, kept, ends_of, AreKept, ArePairsLeft}
 
 -- ---- the first of what is left of a list
 
@@ -40,6 +40,9 @@ next_of all (x ∷ left) place item rest e some is behind =
     let next = at_drop all place x left e in
     record { here = next.here ∙ ap Some (sym is); behind = behind ∙ next.behind }
 
+one_item : {A : Type 0} {a b : A} → Some a ≡ Some b → a ≡ b
+one_item e = cc
+
 -- ---- core by core
 
 -- so many cores are done: their pairs are kept, and the actors of the others are left
@@ -51,6 +54,7 @@ pub record IsGoing (harts : List Hart) (followers : List TagActorSeen) (items : 
   pub follower_rest : followers_left ≡ drop (length pairs) followers
   pub item_rest : items_left ≡ drop (length pairs) items
   pub reply_rest : replies_left ≡ drop (length pairs) replies
+  pub kept : AreKept harts followers pairs
   pub left : ArePairsLeft harts followers items replies pairs
 
 pub going_first : (harts : List Hart) (followers : List TagActorSeen) (items : List (Ring Record)) (replies : List (Lane Reply)) (ends : Ends) → ends ≡ ends_of (length harts) []
@@ -63,6 +67,7 @@ going_first harts followers items replies ends empty = record {
   follower_rest = refl;
   item_rest = refl;
   reply_rest = refl;
+  kept = λ core hart follower pair at followed here. absurd (cc);
   left = λ s memory tags seats core pair here. absurd (cc);
 }
 
@@ -104,10 +109,11 @@ module _ (harts : List Hart) (followers : List TagActorSeen) (items : List (Ring
       (harts_new : List Hart) (followers_new : List TagActorSeen) (items_new : List (Ring Record)) (replies_new : List (Lane Reply)) (pair : Pair) (after : Ends)
       (going : IsGoing harts followers items replies harts_left followers_left items_left replies_left ends)
       → AreNext (length going.pairs) hart follower ring lane harts_new followers_new items_new replies_new
+      → left_in_pair pair ≡ left_by hart follower
       → ((s : Setup) (memory tags : TableSeen) (core : ℕ) → IsSeat s memory tags core hart follower ring lane → IsPairLeft s memory tags core pair)
       → after ≡ kept ends pair
       → IsGoing harts followers items replies harts_new followers_new items_new replies_new after
-  going_more harts_left followers_left items_left replies_left ends hart follower ring lane harts_new followers_new items_new replies_new pair after going next seated keeps =
+  going_more harts_left followers_left items_left replies_left ends hart follower ring lane harts_new followers_new items_new replies_new pair after going next has_kept seated keeps =
       let count : length (going.pairs ++ pair ∷ []) ≡ suc (length going.pairs) = omega (arith, length-append going.pairs (pair ∷ [])) in
       record {
         pairs = going.pairs ++ pair ∷ [];
@@ -117,9 +123,20 @@ module _ (harts : List Hart) (followers : List TagActorSeen) (items : List (Ring
         follower_rest = rw count (next.follower).behind;
         item_rest = rw count (next.item).behind;
         reply_rest = rw count (next.reply).behind;
+        kept = kept_more;
         left = left_more;
       }
     where
+      kept_more : AreKept harts followers (going.pairs ++ pair ∷ [])
+      kept_more core other_hart other_follower found at followed here = by_place (get_at_end going.pairs pair found core here)
+        where
+          by_place : (slice_get going.pairs core ≡ Some found) ⊎ ((core ≡ length going.pairs) × (pair ≡ found)) → left_in_pair found ≡ left_by other_hart other_follower
+          by_place (inl old) = going.kept core other_hart other_follower found at followed old
+          by_place (inr new) =
+              let same_hart : hart ≡ other_hart = one_item (sym (next.hart).here ∙ ap (slice_get harts) (sym new.0) ∙ at) in
+              let same_follower : follower ≡ other_follower = one_item (sym (next.follower).here ∙ ap (slice_get followers) (sym new.0) ∙ followed) in
+              ap left_in_pair (sym new.1) ∙ has_kept ∙ ap₂ left_by same_hart same_follower
+
       left_more : ArePairsLeft harts followers items replies (going.pairs ++ pair ∷ [])
       left_more s memory tags seats core found here = by_place (get_at_end going.pairs pair found core here)
         where

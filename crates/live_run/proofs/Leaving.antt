@@ -26,7 +26,7 @@ use Rattle.tag_actor.specs.Seen.{TagActorSeen}
 use Rattle.tag_actor.specs.Leaving.{HasLeft}
 use Rattle.live_run.specs.declared.pair.Pair.{Pair}
 use Rattle.live_run.specs.Seats.{IsSeat}
-use Rattle.live_run.specs.Pairs.{IsPairLeft}
+use Rattle.live_run.specs.Pairs.{IsPairLeft, left_in_pair, left_by}
 use Rattle.live_run.proofs.Pairing.{meets_in, AreUnitRecords, run_made, split_end, replies_said, nothing_more}
 
 -- the records and the replies of a run
@@ -71,6 +71,11 @@ pair_of hart tagger = record {
   drawn = hart.pass;
   served = tagger.pass;
 }
+
+pub pair_kept : (h : Hart) (t : TagActorSeen) (hart : HartParts) (tagger : TagParts) → HartLeaves h hart → HasLeft t tagger → left_in_pair (pair_of hart tagger) ≡ left_by h t
+pair_kept h t hart tagger leaves left =
+    let kept = leaves.kept in
+    rw (kept.0, kept.1, kept.2, kept.3, ← leaves.ending, leaves.units, left.trap) refl
 
 pub pair_left : (s : Setup) (memory tags : TableSeen) (core : ℕ) (h : Hart) (t : TagActorSeen) (ring : Ring Record) (lane : Lane Reply) (hart : HartParts) (tagger : TagParts) (items_left : List Record) (replies_left : List Reply)
     → IsSeat s memory tags core h t ring lane → HartLeaves h hart → HasLeft t tagger

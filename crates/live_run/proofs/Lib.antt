@@ -20,3 +20,5 @@ pub mod PiecesApart
 pub mod RunClaims
 pub mod ClosedRun
 pub mod Readying
+pub mod Keepsakes
+pub mod Joined

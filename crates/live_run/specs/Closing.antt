@@ -23,8 +23,7 @@ pub record AreReady (s : Setup) (pairs : List Pair) (data_table tag_table : Tabl
   pub room : output ≡ record { items = []; room = 4 * (core_count s * s.budget) }
 
 -- the logs and the outcomes of the cores, and the output of the run that they are the parts of
-pub record IsClosedRun (s : Setup) (memory tags : TableSeen) (closed : Closed) : Type 0 where
-  pub cores : List CoreLeft
+pub record IsClosedRun (s : Setup) (cores : List CoreLeft) (memory tags : TableSeen) (closed : Closed) : Type 0 where
   pub drawn : List Change
   pub served : List Change
   pub logs : map (λ log. log.items) closed.logs.items ≡ map (λ left. left.log) cores

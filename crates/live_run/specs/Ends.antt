@@ -14,7 +14,8 @@ use Rattle.live_run.specs.declared.pair.Pair.{Pair}
 use Rattle.live_run.specs.declared.ends.Claims.{Claims}
 use Rattle.live_run.specs.declared.ends.Ends.{Ends}
 use Rattle.live_run.specs.Seats.{AreSeats}
-use Rattle.live_run.specs.Pairs.{AreLinked, IsPairLeft}
+use Rattle.live_run.specs.Assembled.{CoreLeft}
+use Rattle.live_run.specs.Pairs.{AreLinked, IsPairLeft, left_in_pair, left_by}
 
 -- as many of each as cores, and each ring and lane is that of the actors of its place
 pub record AreAllLinked (harts : List Hart) (followers : List TagActorSeen) (items : List (Ring Record)) (replies : List (Lane Reply)) : Type 0 where
@@ -62,6 +63,17 @@ ends_of room pairs = record {
   served = record { items = map (λ pair. pair.served) pairs; room = room };
 }
 
+-- what each core's two actors have kept
+unfoldable pub lefts_by : List Hart → List TagActorSeen → List CoreLeft
+lefts_by (hart ∷ harts) (follower ∷ followers) = left_by hart follower ∷ lefts_by harts followers
+lefts_by _ _ = []
+
+-- each pair has what the actors of its place have kept
+abbrev pub AreKept : List Hart → List TagActorSeen → List Pair → Type 0
+AreKept harts followers pairs =
+    (core : ℕ) (hart : Hart) (follower : TagActorSeen) (pair : Pair)
+    → slice_get harts core ≡ Some hart → slice_get followers core ≡ Some follower → slice_get pairs core ≡ Some pair → left_in_pair pair ≡ left_by hart follower
+
 -- of actors that are seated for a setup, each pair is the part of its core
 abbrev pub ArePairsLeft : List Hart → List TagActorSeen → List (Ring Record) → List (Lane Reply) → List Pair → Type 0
 ArePairsLeft harts followers items replies pairs =
@@ -73,4 +85,5 @@ pub record HaveFinished (harts : List Hart) (followers : List TagActorSeen) (ite
   pub pairs : List Pair
   pub ends_are : ends ≡ ends_of (length harts) pairs
   pub count : length pairs ≡ length harts
+  pub kept : AreKept harts followers pairs
   pub left : ArePairsLeft harts followers items replies pairs

@@ -28,6 +28,14 @@ left_in_pair pair = record {
   claims = cut pair.pieces.items pair.output.items;
 }
 
+-- and as its two actors have kept it
+abbrev pub left_by : Hart → TagActorSeen → CoreLeft
+left_by hart follower = record {
+  log = hart.log.items;
+  summary = record { ending = hart.local.ending; units = hart.local.units; trap = follower.tags.trap; notes = hart.notes.items };
+  claims = cut hart.pieces.items hart.output.items;
+}
+
 -- the pass of this core at this table
 pub record IsPassAt (table : TableSeen) (core : ℕ) (pass : PassSeen) : Type 0 where
   pub of_table : IsPassOf table pass

@@ -1,5 +1,5 @@
 -- What a contract sees of the parts of a run, and what the run's memory has room for (this project's own).
-use Rattle.std.specs.Prelude.{◌≡◌, ℕ, ◌*◌, ◌≤◌, List, [], vec_capacity, slice_get, Some, true}
+use Rattle.std.specs.Prelude.{◌≡◌, ℕ, ◌*◌, ◌≤◌, List, [], slice_get, Some, true}
 use Rattle.elf_image.specs.Layout.{words_of}
 use Rattle.record_lane.specs.declared.record.Record.{Record}
 use Rattle.record_lane.specs.declared.reply.Reply.{Reply}
@@ -12,6 +12,7 @@ use Rattle.hart_actor.specs.Harts.{Hart, HasEnded}
 use Rattle.tag_actor.specs.Seen.{TagActorSeen}
 use Rattle.live_run.specs.declared.room.RunRoom.{RunRoom}
 use Rattle.live_run.specs.Seats.{AreTables, AreSeats}
+use Rattle.live_run.specs.Ends.{ends_of}
 
 -- the setup, its two tables, the actors of its cores with their rings and lanes, the units or records of a turn, and the memory for the end
 pub record LiveSeen : Type 0 where
@@ -25,14 +26,11 @@ pub record LiveSeen : Type 0 where
   pub quantum : ℕ
   pub room : RunRoom
 
--- a walk at its start for the cores and words of the setup, and empty lists with room for a pass at each table, a log and an outcome of each core, and for four bytes of each unit
+-- a walk at its start for the cores and words of the setup, and empty lists with room for what each core leaves and for four bytes of each unit
 pub record IsRoomFor (s : Setup) (room : RunRoom) : Type 0 where
   pub walk : (room.walk.cores ≡ core_count s) × (room.walk.words ≡ words_of s.program.layout)
   pub start : IsAtStart room.walk
-  pub drawn : (room.drawn.items ≡ []) × (core_count s ≤ vec_capacity room.drawn)
-  pub served : (room.served.items ≡ []) × (core_count s ≤ vec_capacity room.served)
-  pub logs : room.logs ≡ record { items = []; room = core_count s }
-  pub outcomes : room.outcomes ≡ record { items = []; room = core_count s }
+  pub ends : room.ends ≡ ends_of (core_count s) []
   pub output : room.output ≡ record { items = []; room = 4 * (core_count s * s.budget) }
 
 -- the parts are of one run of the setup

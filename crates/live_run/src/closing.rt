@@ -1,7 +1,8 @@
 //! The tables of a run at its end.
-ghost use Rattle.std.specs.Prelude.{List};
+ghost use Rattle.std.specs.Prelude.{List, map};
 ghost use Rattle.machine.specs.Setups.{Setup};
 ghost use Rattle.live_run.specs.declared.pair.Pair.{Pair};
+ghost use Rattle.live_run.specs.Pairs.{left_in_pair};
 ghost use Rattle.live_run.specs.Closing.{AreReady, IsClosedRun};
 
 use crate::ends::Ends;
@@ -29,7 +30,7 @@ pub(crate) fn close_run(
     mut output: Bytes,
 ) -> Closed
     requires { (s : Setup) × (pairs : List Pair) × AreReady s pairs memory tags ends output }
-    ensures { (s : Setup) (pairs : List Pair) → AreReady s pairs memory tags ends output → IsClosedRun s memory tags result }
+    ensures { (s : Setup) (pairs : List Pair) → AreReady s pairs memory tags ends output → IsClosedRun s (map left_in_pair pairs) memory tags result }
 {
     let Ends {
         logs,

@@ -5,6 +5,7 @@ mod actor;
 mod actors;
 mod closing;
 mod ends;
+mod finishing;
 pub mod laws;
 mod objects;
 mod opening;
@@ -18,6 +19,7 @@ mod tables;
 mod threads;
 mod work;
 
+pub use finishing::assemble;
 pub use parts::{LiveParts, RunShape};
 pub use room::RunRoom;
 pub use running::{drive, run};

@@ -4,7 +4,7 @@ ghost use Rattle.ticket_table.specs.Passes.{TableSeen};
 ghost use Rattle.machine.specs.Setups.{Setup};
 ghost use Rattle.hart_actor.specs.Harts.{HasEnded};
 ghost use Rattle.live_run.specs.Seats.{IsSeat};
-ghost use Rattle.live_run.specs.Pairs.{AreLinked, IsPairLeft};
+ghost use Rattle.live_run.specs.Pairs.{AreLinked, IsPairLeft, left_in_pair, left_by};
 
 use hart_actor::{HartActor, HartParts};
 use order_core::{Bytes, CoreLog, Pieces};
@@ -39,7 +39,8 @@ pub(crate) fn finish_pair(
     requires hart { HasEnded hart }
     requires follower { follower.ended ≡ true }
     requires linked { AreLinked hart follower items replies }
-    ensures { (s : Setup) (memory tags : TableSeen) (core : ℕ) → IsSeat s memory tags core hart follower items replies → IsPairLeft s memory tags core result }
+    ensures kept { left_in_pair result ≡ left_by hart follower }
+    ensures left { (s : Setup) (memory tags : TableSeen) (core : ℕ) → IsSeat s memory tags core hart follower items replies → IsPairLeft s memory tags core result }
 {
     let HartParts {
         end,

@@ -2,19 +2,16 @@
 ghost use Rattle.std.specs.Prelude.{IfOk};
 ghost use Rattle.live_run.specs.Parts.{IsRoomFor};
 
-use inline_tracker::{CoreOutcome, Setup};
-use order_core::{BoundedList, Bytes, CoreLog, NoMemory, Walk};
+use crate::ends::Ends;
+use inline_tracker::Setup;
+use order_core::{Bytes, NoMemory, Walk};
 use std::alloc::Global;
-use word_stores::Pass;
 
-/// Memory for the end of a run: its order, the passes of both tables as they come back, its logs, outcomes and output.
+/// Memory for the end of a run: the walk along its order, what its cores leave, and its output.
 #[derive(Drop)]
 pub struct RunRoom {
     pub(crate) walk: Walk,
-    pub(crate) drawn: Vec<Pass>,
-    pub(crate) served: Vec<Pass>,
-    pub(crate) logs: BoundedList<CoreLog>,
-    pub(crate) outcomes: BoundedList<CoreOutcome>,
+    pub(crate) ends: Ends,
     pub(crate) output: Bytes,
 }
 
@@ -25,14 +22,10 @@ impl RunRoom {
     {
         let image = setup.guest().image();
         let cores = image.cores();
-        let logs = u32::from(cores);
         Ok(RunRoom {
             walk: Walk::create(alloc, image.words(), cores)?,
-            drawn: Vec::with_capacity(alloc, cores as usize).map_err(|_| NoMemory)?,
-            served: Vec::with_capacity(alloc, cores as usize).map_err(|_| NoMemory)?,
-            logs: BoundedList::create(alloc, logs)?,
-            outcomes: BoundedList::create(alloc, logs)?,
-            output: Bytes::create(alloc, 4 * (logs * setup.budget()))?,
+            ends: Ends::create(alloc, u32::from(cores))?,
+            output: Bytes::create(alloc, 4 * (u32::from(cores) * setup.budget()))?,
         })
     }
 }

@@ -35,4 +35,4 @@ loop-harts-preserved c =
     let next = next_ones _ _ _ _ c.requires.linked _ _ _ _ _ _ _ _ _ _ _ _ _ c.loop-harts.invariant some
     (c.remove.ensures.value, c.remove.ensures.items) (c.remove-in-loop-harts.ensures.value, c.remove-in-loop-harts.ensures.items)
     (c.remove-in-loop-harts-2.ensures.value, c.remove-in-loop-harts-2.ensures.items) (c.remove-in-loop-harts-3.ensures.value, c.remove-in-loop-harts-3.ensures.items) in
-    going_more _ _ _ _ _ _ _ _ _ _ _ _ _ _ _ _ _ _ _ c.loop-harts.invariant next c.finish_pair-pair.ensures c.keep.ensures
+    going_more _ _ _ _ _ _ _ _ _ _ _ _ _ _ _ _ _ _ _ c.loop-harts.invariant next c.finish_pair-pair.ensures.kept c.finish_pair-pair.ensures.left c.keep.ensures
