@@ -3,53 +3,16 @@ ghost use Rattle.machine.specs.FinishedRuns.{IsFinishedRun};
 
 use super::*;
 use elf_image::load;
+use guest_images::{HI, small_image};
 use order_core::{Walk, all_touch_below};
 use std::alloc::Global;
 use std::test::Fail;
 use syscall_drain::{End, Guest};
 use tag_policy::Policy;
 
-/// A program at 0x10000 that writes `hi` and exits: the file's header, its one program header, ten words.
-const HI: [u32; 31] = [
-    0x464c_457f,
-    0x0001_0101,
-    0,
-    0,
-    0x00f3_0002,
-    1,
-    0x0001_0000,
-    52,
-    0,
-    0,
-    0x0020_0034,
-    1,
-    0,
-    1,
-    84,
-    0x0001_0000,
-    0x0001_0000,
-    40,
-    40,
-    7,
-    4,
-    0x0001_05b7,
-    0x0245_8593,
-    0x0010_0513,
-    0x0030_0613,
-    0x0400_0893,
-    0x0000_0073,
-    0x0000_0513,
-    0x05d0_0893,
-    0x0000_0073,
-    0x000a_6968,
-];
-
-/// One core or two that run the image of these words, with no input.
-fn setup_of(alloc: Global, words: &[u32], two: bool) -> Result<Setup, Fail> {
-    let mut bytes = Vec::new(alloc);
-    for word in words {
-        bytes.extend_from_slice(&word.to_le_bytes())?;
-    }
+/// One core or two that run the small image of a program, with no input.
+fn setup_of(alloc: Global, program: &[u32], two: bool) -> Result<Setup, Fail> {
+    let bytes = small_image(alloc, program)?;
     let image = load(alloc, &bytes, if two { 2 } else { 1 }, 16, 256)?;
     let guest = Guest::new(image, Vec::new(alloc));
     Ok(Setup::new(guest, Policy::standard(), 1_048_576, 4_294_967_280))
