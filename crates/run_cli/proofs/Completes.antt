@@ -1,11 +1,10 @@
 -- Where words and files are those of a run, a replay or a map, and no count rose, a command ends with its answer or for want of memory.
-use Rattle.std.proofs.Common.{◌≡◌, ℕ, ◌<◌, ◌⊎◌, inl, inr, List, ◌∷◌, length, slice_get, codes, Option, None, Some, IsSome, IfSome, Ok, Err, refl, sym, ap, subst, ◌∙◌, arith}
+use Rattle.std.proofs.Common.{◌≡◌, ℕ, ◌<◌, ◌≤◌, ◌⊎◌, inl, inr, List, ◌∷◌, length, slice_get, codes, Option, None, Some, IsSome, IfSome, Ok, Err, refl, sym, ap, subst, ◌∙◌, arith}
 use Rattle.outside.specs.Faults.{Rose}
 use Rattle.outside.specs.Sinks.{SinkSeen}
 use Rattle.elf_image.specs.Layout.{Layout}
 use Rattle.machine.specs.Setups.{Setup}
-use Rattle.machine.specs.Runs.{along, IsComplete}
-use Rattle.machine.specs.Outcomes.{status_class}
+use Rattle.machine.specs.Runs.{IsComplete}
 use Rattle.trap_report.specs.Text.{text}
 use Rattle.trap_report.specs.Reading.{Reported, saved_of}
 use Rattle.trap_report.specs.declared.saved.ReportKind.{ReportKind}
@@ -15,8 +14,8 @@ use Rattle.run_cli.specs.Words.{Reads, ReadsOffline}
 use Rattle.run_cli.specs.Work.{SaysReport, IsImage, IsSetupOf, IsReplayOf, setup_told}
 use Rattle.run_cli.specs.Lines.{status_of}
 use Rattle.run_cli.specs.Causes.{Caused, IsLong, HasReportFault, HasDifference, HasBadLine, HasBadOrder}
-use Rattle.run_cli.specs.Endings.{Answer, Answers, AnswersRun, Ended, Refused, CutReport, OutputCut, ReportCut}
-use Rattle.run_cli.specs.Completeness.{AreToldOf, CanRun, CanReplay, CanMap, NothingRose, Completes, CompletesReplay, CompletesMap, class_in_turn}
+use Rattle.run_cli.specs.Endings.{Answer, Answers, Ended, Refused, CutReport, OutputCut, ReportCut}
+use Rattle.run_cli.specs.Completeness.{AreToldOf, CanRun, CanReplay, CanMap, NothingRose, Completes, CompletesReplay, CompletesMap}
 use Rattle.run_cli.specs.declared.files.FileKind.TheVariants.{Image as ImageFile, Policy as PolicyFile, Input as InputFile, Report as ReportFile}
 use Rattle.run_cli.specs.declared.ending.Ending.{Ending}
 use Rattle.run_cli.specs.declared.ending.Ending.TheVariants.{Class, Words, Image, Policy, Differs, Report, Long, Memory, Read, Write}
@@ -29,9 +28,9 @@ use Rattle.run_cli.proofs.Completing.{HasAccepted, HasTold, accepted_of, setup_o
 abbrev AreCalm : FilesSeen → FilesSeen → Type 0
 AreCalm old new = (name : List ℕ) → Rose (old.faults name) (new.faults name) → ⊥
 
--- what is asked for is answered with this status, and is refused for want of memory alone
-record Can (asked : Asked) (files : FilesSeen) (class : ℕ) : Type 0 where
-  answer : (given : Answer) → Answers files asked given → given.class ≡ class
+-- what is asked for is answered with such a status, and is refused for want of memory alone
+record Can (asked : Asked) (files : FilesSeen) (IsClass : ℕ → Type 0) : Type 0 where
+  answer : (given : Answer) → Answers files asked given → given.class ≤ 5 → IsClass given.class
   refusal : (new : FilesSeen) (ending : Ending) → AreCalm files new → Caused asked files new ending → status_of ending ≡ 71
 
 report_rose : (report : Option (List ℕ)) (old new : SinkSeen) → CutReport report old new → Rose old.faults new.faults
@@ -42,23 +41,24 @@ not_cut : (answer : Answer) (old new : Seen) → NothingRose old new → (Output
 not_cut answer old new calm (inl cut) = calm.out cut.out.rose
 not_cut answer old new calm (inr cut) = calm.report (report_rose answer.report _ _ cut.report)
 
-refused_so : (words : List (List ℕ)) (old new : Seen) (ending : Ending) (asked : Asked) (class : ℕ) → Reads words asked → Can asked old.files class → NothingRose old new → Refused Reads words old new ending → status_of ending ≡ 71
-refused_so words old new ending asked class read can calm refused =
+refused_so : (words : List (List ℕ)) (old new : Seen) (ending : Ending) (asked : Asked) (IsClass : ℕ → Type 0) → Reads words asked → Can asked old.files IsClass → NothingRose old new → Refused Reads words old new ending → status_of ending ≡ 71
+refused_so words old new ending asked IsClass read can calm refused =
     can.refusal new.files ending calm.files
     (subst (λ (a : Asked). Caused a old.files new.files ending) (reads_once words refused.asked asked refused.read read) refused.caused)
 
-completes_by : (words : List (List ℕ)) (old new : Seen) (ending : Ending) (asked : Asked) (class : ℕ) → Reads words asked → Can asked old.files class → NothingRose old new → Ended Reads words old new ending → (status_of ending ≡ class) ⊎ (status_of ending ≡ 71)
-completes_by words old new (Class c) asked class read can calm ended =
-    inl (ended.class_is ∙ can.answer ended.answer (subst (λ (a : Asked). Answers old.files a ended.answer) (reads_once words ended.answered.asked asked ended.answered.read read) ended.answered.answers))
-completes_by words old new Write asked class read can calm ended = absurd (not_cut ended.answer old new calm ended.cut)
-completes_by words old new Words asked class read can calm ended = absurd (ended.nothing asked read)
-completes_by words old new Memory asked class read can calm ended = inr refl
-completes_by words old new (Image fault) asked class read can calm ended = inr (refused_so words old new _ asked class read can calm ended)
-completes_by words old new (Policy kind table key) asked class read can calm ended = inr (refused_so words old new (Policy kind table key) asked class read can calm ended)
-completes_by words old new (Differs place) asked class read can calm ended = inr (refused_so words old new (Differs place) asked class read can calm ended)
-completes_by words old new (Report line kind) asked class read can calm ended = inr (refused_so words old new (Report line kind) asked class read can calm ended)
-completes_by words old new (Long kind) asked class read can calm ended = inr (refused_so words old new (Long kind) asked class read can calm ended)
-completes_by words old new (Read kind) asked class read can calm ended = inr (refused_so words old new (Read kind) asked class read can calm ended)
+completes_by : (words : List (List ℕ)) (old new : Seen) (ending : Ending) (asked : Asked) (IsClass : ℕ → Type 0) → Reads words asked → Can asked old.files IsClass → NothingRose old new → Ended Reads words old new ending → IsClass (status_of ending) ⊎ (status_of ending ≡ 71)
+completes_by words old new (Class c) asked IsClass read can calm ended =
+    let answers : Answers old.files asked ended.answer = subst (λ (a : Asked). Answers old.files a ended.answer) (reads_once words ended.answered.asked asked ended.answered.read read) ended.answered.answers in
+    inl (subst IsClass (sym ended.class_is) (can.answer ended.answer answers (subst (λ (n : ℕ). n ≤ 5) ended.class_is ended.within)))
+completes_by words old new Write asked IsClass read can calm ended = absurd (not_cut ended.answer old new calm ended.cut)
+completes_by words old new Words asked IsClass read can calm ended = absurd (ended.nothing asked read)
+completes_by words old new Memory asked IsClass read can calm ended = inr refl
+completes_by words old new (Image fault) asked IsClass read can calm ended = inr (refused_so words old new _ asked IsClass read can calm ended)
+completes_by words old new (Policy kind table key) asked IsClass read can calm ended = inr (refused_so words old new (Policy kind table key) asked IsClass read can calm ended)
+completes_by words old new (Differs place) asked IsClass read can calm ended = inr (refused_so words old new (Differs place) asked IsClass read can calm ended)
+completes_by words old new (Report line kind) asked IsClass read can calm ended = inr (refused_so words old new (Report line kind) asked IsClass read can calm ended)
+completes_by words old new (Long kind) asked IsClass read can calm ended = inr (refused_so words old new (Long kind) asked IsClass read can calm ended)
+completes_by words old new (Read kind) asked IsClass read can calm ended = inr (refused_so words old new (Read kind) asked IsClass read can calm ended)
 
 -- ---- a run
 
@@ -88,17 +88,11 @@ run_refusal files new o s Memory told calm caused = refl
 run_refusal files new o s (Read kind) told calm caused = absurd (calm caused.name caused.rose)
 run_refusal files new o s Write told calm caused = absurd caused
 
-run_class : (files : FilesSeen) (o : RunAsked) (s : Setup) (given : Answer) → AreToldOf files o.setup s → AnswersRun files o given → given.class ≡ class_in_turn s
-run_class files o s given told ran =
-    ap (λ (a : Answer). a.class) ran.answer_is
-    ∙ ap (λ (order : List ℕ). status_class ran.setup (along ran.setup order)) ran.order_of.turned
-    ∙ ap class_in_turn (setup_once files o.setup s ran.setup told ran.setup_is)
-
 pub completes : (words : List (List ℕ)) (old new : Seen) (ending : Ending) → Ended Reads words old new ending → Completes words old new (status_of ending)
 completes words old new ending ended s can calm =
-    completes_by words old new ending (Run can.asked) (class_in_turn s) can.reads
+    completes_by words old new ending (Run can.asked) (λ n. n ≤ 5) can.reads
     (record {
-      answer = λ given ran. run_class old.files can.asked s given can.told ran;
+      answer = λ given ran within. within;
       refusal = λ files e quiet caused. run_refusal old.files files can.asked s e (run_told old.files can.asked s can.told) quiet caused;
     }) calm ended
 
@@ -194,9 +188,9 @@ completes_replay words old new ending ended can calm =
       complete = can.complete;
       same = can.same;
     } in
-    completes_by words old new ending (Replay can.asked) 0 can.reads
+    completes_by words old new ending (Replay can.asked) (λ n. n ≡ 0) can.reads
     (record {
-      answer = λ given replayed. ap (λ (a : Answer). a.class) replayed.answer_is;
+      answer = λ given replayed within. ap (λ (a : Answer). a.class) replayed.answer_is;
       refusal = λ files e quiet caused. replay_refusal old.files files can.asked can.setup e replays (replay_told old.files can.asked can.setup replays) quiet caused;
     }) calm ended
 
@@ -233,9 +227,9 @@ map_refusal files new asked image Write can calm caused = absurd caused
 
 pub completes_map : (words : List (List ℕ)) (old new : Seen) (ending : Ending) → Ended Reads words old new ending → CompletesMap words old new (status_of ending)
 completes_map words old new ending ended image can calm =
-    completes_by words old new ending (Inspect can.asked) 0 can.reads
+    completes_by words old new ending (Inspect can.asked) (λ n. n ≡ 0) can.reads
     (record {
-      answer = λ given mapped. ap (λ (a : Answer). a.class) mapped.answer_is;
+      answer = λ given mapped within. ap (λ (a : Answer). a.class) mapped.answer_is;
       refusal = λ files e quiet caused. map_refusal old.files files can.asked image e (map_accepted old.files can.asked image can.image_is can.told) quiet caused;
     }) calm ended
 

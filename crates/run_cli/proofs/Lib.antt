@@ -1,5 +1,3 @@
-pub mod Rounds
-pub mod Ends
 pub mod Reading
 pub mod ReadsOnce
 pub mod Delivering

@@ -1,17 +1,15 @@
 -- When a command is not refused but for want of memory (this project's own).
-use Rattle.std.specs.Prelude.{◌≡◌, ℕ, ◌⊎◌, List, Option, None, Some, IsSome}
+use Rattle.std.specs.Prelude.{◌≡◌, ℕ, ◌≤◌, ◌⊎◌, List, Option, None, Some, IsSome}
 use Rattle.outside.specs.Faults.{Rose}
 use Rattle.elf_image.specs.Layout.{Layout}
 use Rattle.machine.specs.Setups.{Setup}
-use Rattle.machine.specs.Runs.{along, IsComplete}
-use Rattle.machine.specs.Outcomes.{status_class}
+use Rattle.machine.specs.Runs.{IsComplete}
 use Rattle.trap_report.specs.Text.{text}
 use Rattle.trap_report.specs.Reading.{Reported}
 use Rattle.run_cli.specs.Seen.{FilesSeen, Seen}
 use Rattle.run_cli.specs.Asked.{ImageAsked, SetupAsked, RunAsked, ReplayAsked, Run, Replay, Inspect}
 use Rattle.run_cli.specs.Words.{Reads}
 use Rattle.run_cli.specs.Work.{IsImage, IsSetupOf, IsReplayOf, setup_told}
-use Rattle.run_cli.specs.Rotation.{rotation}
 
 abbrev pub IsToldOf : FilesSeen → Option (List ℕ) → Type 0
 IsToldOf files None = Unit {0}
@@ -56,13 +54,9 @@ pub record NothingRose (old new : Seen) : Type 0 where
   pub out : Rose old.sinks.out.faults new.sinks.out.faults → ⊥
   pub report : Rose old.sinks.report.faults new.sinks.report.faults → ⊥
 
--- the class of the run in which the cores have their turns
-abbrev pub class_in_turn : Setup → ℕ
-class_in_turn s = status_class s (along s (rotation s))
-
--- where no count rose, a run is answered by its class, a replay and a map by 0, or each by 71
+-- where no count rose, a run is answered by a class, a replay and a map by 0, or each by 71
 abbrev pub Completes : List (List ℕ) → Seen → Seen → ℕ → Type 0
-Completes words old new status = (s : Setup) → CanRun words old.files s → NothingRose old new → (status ≡ class_in_turn s) ⊎ (status ≡ 71)
+Completes words old new status = (s : Setup) → CanRun words old.files s → NothingRose old new → (status ≤ 5) ⊎ (status ≡ 71)
 
 abbrev pub CompletesReplay : List (List ℕ) → Seen → Seen → ℕ → Type 0
 CompletesReplay words old new status = CanReplay words old.files → NothingRose old new → (status ≡ 0) ⊎ (status ≡ 71)

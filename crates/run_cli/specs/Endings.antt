@@ -3,8 +3,9 @@ use Rattle.std.specs.Prelude.{◌≡◌, ℕ, ◌≤◌, ◌⊎◌, List, codes,
 use Rattle.outside.specs.Sinks.{SinkSeen, Untouched, Wrote, Cut, Told}
 use Rattle.elf_image.specs.Layout.{Layout}
 use Rattle.record_lane.specs.declared.reply.Trap.{Trap}
+use Rattle.order_core.specs.CanonicalMerge.{canonical}
 use Rattle.machine.specs.Setups.{Setup}
-use Rattle.machine.specs.Runs.{along, IsComplete}
+use Rattle.machine.specs.Runs.{along, logs_along, IsComplete}
 use Rattle.machine.specs.Outcomes.{output, status_class}
 use Rattle.machine.specs.TrapLaws.{IsHeldFrom}
 use Rattle.trap_report.specs.Text.{text}
@@ -12,7 +13,6 @@ use Rattle.trap_report.specs.Reading.{Reported}
 use Rattle.run_cli.specs.Seen.{FilesSeen, SinksSeen, Seen}
 use Rattle.run_cli.specs.Asked.{ImageAsked, RunAsked, ReplayAsked, Asked, Run, Replay, Inspect}
 use Rattle.run_cli.specs.Work.{IsImage, IsSetupOf, IsReplayOf}
-use Rattle.run_cli.specs.Rotation.{rotation}
 use Rattle.run_cli.specs.MapText.{map_text}
 use Rattle.run_cli.specs.Lines.{line_of}
 use Rattle.run_cli.specs.Causes.{IsCalm, Caused}
@@ -35,10 +35,10 @@ run_answer s order = record { class = status_class s (along s order); out = outp
 abbrev pub text_answer : List ℕ → Answer
 text_answer text = record { class = 0; out = text; report = None }
 
--- this order of the cores' units is complete, it is the one in which they had their turns, and a core is held from its trap on
+-- this order of the cores' units is complete, it is the canonical merge of their logs, and a core is held from its trap on
 pub record IsOrderOf (s : Setup) (order : List ℕ) : Type 0 where
   pub complete : IsComplete s order
-  pub turned : order ≡ rotation s
+  pub merged : order ≡ canonical (logs_along s order)
   pub held : (core : ℕ) (trap : Trap) → ((along s order).cores core).tags.trap ≡ Some trap → IsHeldFrom s order core trap
 
 pub record AnswersRun (files : FilesSeen) (o : RunAsked) (answer : Answer) : Type 0 where

@@ -2,12 +2,9 @@ pub mod Seen
 pub mod Asked
 pub mod Words
 pub mod Work
-pub mod Rotation
 pub mod Lines
 pub mod MapText
 pub mod Causes
 pub mod Endings
 pub mod Completeness
-pub mod Laws
 pub mod Forms
-pub mod Turning

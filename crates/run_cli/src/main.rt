@@ -6,21 +6,20 @@ mod deliver;
 mod dispatch;
 mod ending;
 mod files;
-pub mod laws;
+mod live;
 mod map_text;
 mod offline;
 mod options;
 mod prepare;
 mod refusal;
 mod replay;
-mod rotation;
 mod setup;
 #[cfg(test)]
 mod tests;
 mod words;
 
 use dispatch::command;
-use outside::{HostFiles, HostSink};
+use outside::{HostFiles, HostSink, OpenGate};
 use std::process::ExitCode;
 use std::{env, io};
 
@@ -39,5 +38,6 @@ fn main(rt: HostRuntime) -> ExitCode {
     let mut files = HostFiles::new(&rt);
     let mut out = HostSink::new(rt.stdout());
     let mut report = HostSink::new(rt.stderr());
-    ExitCode::from(command(rt.alloc(), &words, &mut files, &mut out, &mut report))
+    let alloc = rt.alloc();
+    ExitCode::from(command(&rt, alloc, &words, &mut files, &mut out, &mut report, &OpenGate))
 }

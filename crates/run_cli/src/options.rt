@@ -29,12 +29,15 @@ pub struct SetupOptions<'a> {
     ghost most_limit: { limit ≤ 4294967280 },
 }
 
-/// The options of a run.
+/// The options of a run: how many records wait for a tag actor at most, and how many units or records a turn has.
 #[derive(Clone, Copy)]
 pub struct RunOptions<'a> {
     pub setup: SetupOptions<'a>,
     pub lane: u32,
     pub quantum: u32,
+    ghost some_lane: { 1 ≤ lane },
+    ghost most_lane: { lane ≤ 4096 },
+    ghost some_quantum: { 1 ≤ quantum },
 }
 
 /// The files of a run whose numbers are in its report.

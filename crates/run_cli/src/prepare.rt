@@ -8,12 +8,15 @@ ghost use Rattle.run_cli.specs.Causes.{IsCalm, Caused};
 ghost use Rattle.run_cli.specs.Endings.{IsOrderOf};
 
 use crate::ending::Ending;
+use crate::live::run_in_threads;
 use crate::options::RunOptions;
-use crate::rotation::run_in_turn;
 use crate::setup::read_setup;
 use inline_tracker::{Finished, Setup};
-use outside::Files;
+use live_run::RunShape;
+use outside::{Files, Gate};
 use std::alloc::Global;
+use std::sync::Wait;
+use std::thread::Threads;
 
 /// A finished run with its setup.
 #[derive(Drop)]
@@ -23,10 +26,12 @@ pub struct Run {
 }
 
 /// The run that the options say, to its end.
-pub fn prepare<F: Files>(
+pub fn prepare<F: Files, G: Gate, X: Threads + Wait + Sync>(
+    rt: &X,
     alloc: Global,
     options: &RunOptions<'_>,
     files: &mut F,
+    gate: &G,
 ) -> Result<Run, Ending>
     ensures setup { IfOk result (λ run. IsSetupOf (files_seen (F.held files.old) (F.faults files.old)) (run_in options.now).setup run.setup) }
     ensures finished { IfOk result (λ run. IsFinishedRun run.setup run.finished.run) }
@@ -36,7 +41,11 @@ pub fn prepare<F: Files>(
         (files_seen (F.held files.old) (F.faults files.old)) (files_seen (F.held files.new) (F.faults files.new))) }
 {
     let setup = read_setup(alloc, &options.setup, files)?;
-    match run_in_turn(alloc, &setup) {
+    let shape = RunShape {
+        bound: options.lane,
+        quantum: options.quantum,
+    };
+    match run_in_threads(rt, alloc, &setup, shape, gate) {
         Ok(finished) => Ok(Run { setup, finished }),
         Err(NoMemory) => Err(Ending::Memory),
     }

@@ -1,5 +1,7 @@
-use Rattle.std.proofs.Common.{refl}
+use Rattle.std.proofs.Common.{refl, ap, ◌∙◌}
 use Rattle.std.proofs.lemmas.Result.{err_from_is_err_and}
+use Rattle.order_core.specs.CanonicalMerge.{canonical}
+use Rattle.machine.specs.FinishedRuns.{FinishedRun}
 use Rattle.machine.proofs.TrapRuns.{traps_hold_on}
 use Rattle.run_cli.specs.Asked.{Run, run_in}
 use Rattle.run_cli.proofs.prepare.prepare.Goals as goal
@@ -7,7 +9,7 @@ use Rattle.run_cli.proofs.prepare.prepare.Goals as goal
 pub returns-in-Ok-clause-order : goal.returns-in-Ok-clause-order
 returns-in-Ok-clause-order g c = record {
   complete = c.in-Ok.ensures.run.complete;
-  turned = c.in-Ok.ensures.order;
+  merged = c.in-Ok.ensures.merged ∙ ap (λ (run : FinishedRun). canonical run.logs) c.in-Ok.ensures.run.run;
   held = traps_hold_on _ _ c.in-Ok.ensures.run.complete.playable;
 }
 
