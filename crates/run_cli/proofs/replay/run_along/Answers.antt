@@ -19,4 +19,4 @@ stopped-requires c =
 pub returns-clause-refused : goal.returns-clause-refused
 returns-clause-refused c bytes =
     rw c.stopped-in-Err.ensures (stops_at_end c.args.setup.now c.args.order.now c.step_along-units.result c.in-Ok.tracker c.step_along-units.new.tracker
-    c.step_along-units.ensures.within c.if-units-order.false c.in-Ok.ensures c.step_along-units.ensures.playable c.step_along-units.ensures.after c.in-Err.ensures.unfinished.1)
+    c.step_along-units.ensures.within (omega arith) c.in-Ok.ensures c.step_along-units.ensures.playable c.step_along-units.ensures.after c.in-Err.ensures.unfinished.1)
