@@ -4,47 +4,13 @@ ghost use Rattle.hart_actor.specs.Objects.{AreOf};
 
 use super::*;
 use elf_image::load;
+use guest_images::{HI, small_image};
 use record_lane::{Got, Lane, Record, Reply, Ring, Sender, Sent};
 use std::alloc::Global;
 use std::sync::Wait;
 use std::test::Fail;
 use syscall_drain::{End, Guest};
 use word_stores::SharedMemory;
-
-/// A program at 0x10000 that writes `hi` and exits: the file's header, its one program header, ten words.
-const HI: [u32; 31] = [
-    0x464c_457f,
-    0x0001_0101,
-    0,
-    0,
-    0x00f3_0002,
-    1,
-    0x0001_0000,
-    52,
-    0,
-    0,
-    0x0020_0034,
-    1,
-    0,
-    1,
-    84,
-    0x0001_0000,
-    0x0001_0000,
-    40,
-    40,
-    7,
-    4,
-    0x0001_05b7,
-    0x0245_8593,
-    0x0010_0513,
-    0x0030_0613,
-    0x0400_0893,
-    0x0000_0073,
-    0x0000_0513,
-    0x05d0_0893,
-    0x0000_0073,
-    0x000a_6968,
-];
 
 const BUDGET: u32 = 1_048_576;
 
@@ -62,10 +28,7 @@ const GO: Reply = Reply {
 };
 
 fn hi(alloc: Global) -> Result<Guest, Fail> {
-    let mut bytes = Vec::new(alloc);
-    for word in HI {
-        bytes.extend_from_slice(&word.to_le_bytes())?;
-    }
+    let bytes = small_image(alloc, &HI)?;
     let image = load(alloc, &bytes, 1, 1, 1)?;
     Ok(Guest::new(image, Vec::new(alloc)))
 }
