@@ -16,6 +16,8 @@ mod room;
 mod rounds;
 mod running;
 mod tables;
+#[cfg(test)]
+mod tests;
 mod threads;
 mod work;
 
