@@ -109,6 +109,7 @@ fn difference_of_ends(one: &CoreOutcome, other: &CoreOutcome) -> Option<&'static
 }
 
 /// In what two runs of a setup differ.
+#[tactic(auto, using(inline_tracker::proofs::Walked::log_count))]
 fn difference(setup: &Setup, one: &Finished, other: &Finished) -> Option<&'static str>
     requires one { IsFinishedRun setup.now one.now.run }
     requires other { IsFinishedRun setup.now other.now.run }

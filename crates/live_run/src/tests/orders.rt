@@ -1,10 +1,11 @@
 //! Runs whose actors have their turns in orders drawn by lot.
 ghost use Rattle.std.specs.Prelude.{◌≡◌, ◌<◌, ◌≤◌, length, IfOk};
 ghost use Rattle.live_run.specs.Places.{EachIs, AreSame};
-ghost use Rattle.live_run.specs.Seats.{HaveEnded};
+ghost use Rattle.live_run.specs.Seats.{AreSeats, HaveEnded};
 
 use super::*;
 use crate::actor::{Actor, Lasting};
+use crate::actors::Actors;
 use crate::objects::Objects;
 use crate::work::pass_and_visit;
 use outside::Who;
@@ -53,13 +54,32 @@ fn turn_at<A: Actor<S>, S, R: Wait>(rt: &R, actors: &mut [A], place: &S, core: u
     }
 }
 
+/// A turn of one actor.
+fn turn_of<R: Wait>(rt: &R, objects: &Objects<'_>, actors: Actors, who: Who) -> Actors
+    requires seats { AreSeats objects.now.setup.now objects.now.memory.now objects.now.tags.now actors.harts.items actors.followers.items objects.now.items.now objects.now.replies.now }
+    requires quantum { 1 ≤ objects.now.quantum }
+    ensures seats { AreSeats objects.now.setup.now objects.now.memory.now objects.now.tags.now result.harts.items result.followers.items objects.now.items.now objects.now.replies.now }
+{
+    let Actors {
+        mut harts,
+        mut followers,
+    } = actors;
+    match who {
+        Who::Hart(core) => turn_at(rt, &mut harts, objects, core),
+        Who::Tag(core) => turn_at(rt, &mut followers, objects, core),
+    }
+    Actors { harts, followers }
+}
+
 /// The parts after a turn of one actor, of at most so many units or records.
 fn after_turn<'a, R: Wait>(rt: &R, parts: LiveParts<'a>, who: Who, quantum: u32) -> LiveParts<'a>
     requires { 1 ≤ quantum }
     ensures { result.setup ≡ parts.entry.setup }
 {
-    let mut harts = parts.harts;
-    let mut followers = parts.followers;
+    let actors = Actors {
+        harts: parts.harts,
+        followers: parts.followers,
+    };
     let objects = Objects {
         setup: parts.setup,
         memory: &parts.memory,
@@ -68,10 +88,7 @@ fn after_turn<'a, R: Wait>(rt: &R, parts: LiveParts<'a>, who: Who, quantum: u32)
         replies: parts.replies.as_slice(),
         quantum,
     };
-    match who {
-        Who::Hart(core) => turn_at(rt, &mut harts, &objects, core),
-        Who::Tag(core) => turn_at(rt, &mut followers, &objects, core),
-    }
+    let Actors { harts, followers } = turn_of(rt, &objects, actors, who);
     LiveParts {
         harts,
         followers,
