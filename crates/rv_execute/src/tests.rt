@@ -1,11 +1,10 @@
 //! Results of each operation, by the RISC-V Unprivileged ISA.
 
-ghost use Rattle.std.specs.Prelude.{◌<◌};
-ghost use Rattle.rv_decode.specs.Ranges.{Fits};
+ghost use Rattle.std.specs.Prelude.{◌≡◌, ◌<◌};
 
 use super::*;
 use crate::alu::form_of;
-use rv_decode::{AmoKind, BranchKind, ImmKind, Insn, LoadKind, RegKind, StoreKind};
+use rv_decode::{AmoKind, BranchKind, ImmKind, Insn, LoadKind, RegKind, StoreKind, fits};
 use std::test::Fail;
 
 /// A hart at 0x00010000 with these words in x1 and x2.
@@ -20,26 +19,34 @@ fn hart_with(first: u32, second: u32) -> Hart {
     }
 }
 
-/// The hart after the instruction, whose access finds this, or nothing where the instruction asks for more.
-fn executed(mut hart: Hart, insn: Insn, number: u32, old: u32) -> Option<Hart>
-    requires fits { Fits insn }
-    requires numbered { number < 4294967294 }
+/// A branch by x1 and x2.
+fn branch(kind: BranchKind, imm: i32) -> Insn
+    ensures { result ≡ Insn.Branch kind 1 2 imm }
 {
+    let (rs1, rs2) = (1, 2);
+    Insn::Branch {
+        kind,
+        rs1,
+        rs2,
+        imm,
+    }
+}
+
+/// The hart after the instruction, whose access finds this, or nothing where the instruction does not fit or asks for more.
+fn executed(mut hart: Hart, insn: Insn, number: u32, old: u32) -> Option<Hart>
+    requires { number < 4294967294 }
+{
+    if !fits(insn) {
+        return None;
+    }
     match begin(&hart, insn) {
         Ask::Quiet => {
             resume(&mut hart, insn, None);
             Some(hart)
         }
         Ask::Touch { .. } => {
-            resume(
-                &mut hart,
-                insn,
-                Some(Taken {
-                    number,
-                    old,
-                    spent: false,
-                }),
-            );
+            let spent = false;
+            resume(&mut hart, insn, Some(Taken { number, old, spent }));
             Some(hart)
         }
         _ => None,
@@ -47,9 +54,10 @@ fn executed(mut hart: Hart, insn: Insn, number: u32, old: u32) -> Option<Hart>
 }
 
 /// The word after the instruction's access with this number to it.
-fn stored(hart: &Hart, insn: Insn, number: u32, old: u32) -> Option<u32>
-    requires { Fits insn }
-{
+fn stored(hart: &Hart, insn: Insn, number: u32, old: u32) -> Option<u32> {
+    if !fits(insn) {
+        return None;
+    }
     match begin(hart, insn) {
         Ask::Touch { op, .. } => Some(apply(op, number, old)),
         _ => None,
@@ -58,6 +66,7 @@ fn stored(hart: &Hart, insn: Insn, number: u32, old: u32) -> Option<u32>
 
 #[test]
 fn computes(rt: HostRuntime) {
+    let (rd, rs1, rs2) = (3, 1, 2);
     let cases = [
         (RegKind::Add, 0xffff_ffff, 2, 1),
         (RegKind::Sub, 1, 2, 0xffff_ffff),
@@ -86,12 +95,7 @@ fn computes(rt: HostRuntime) {
         (RegKind::Remu, 7, 0, 7),
     ];
     for (kind, a, b, want) in cases {
-        let insn = Insn::Reg {
-            kind,
-            rd: 3,
-            rs1: 1,
-            rs2: 2,
-        };
+        let insn = Insn::Reg { kind, rd, rs1, rs2 };
         let after = executed(hart_with(a, b), insn, 0, 0);
         assert_eq!(rt;
             after.map(|hart| hart.regs[3]),
@@ -118,12 +122,8 @@ fn has_register_forms(rt: HostRuntime) {
         assert_eq!(rt; form_of(kind), form);
     }
     // The immediate is sign-extended, also where it is compared unsigned.
-    let sltiu = Insn::Imm {
-        kind: ImmKind::Sltiu,
-        rd: 3,
-        rs1: 1,
-        imm: -1,
-    };
+    let (kind, rd, rs1, imm) = (ImmKind::Sltiu, 3, 1, -1);
+    let sltiu = Insn::Imm { kind, rd, rs1, imm };
     assert_eq!(rt;
         executed(hart_with(0xffff_fffe, 0), sltiu, 0, 0).map(|hart| hart.regs[3]),
         Some(1)
@@ -131,7 +131,7 @@ fn has_register_forms(rt: HostRuntime) {
 }
 
 #[test]
-fn branches_and_jumps(rt: HostRuntime) {
+fn branches(rt: HostRuntime) {
     let cases = [
         (BranchKind::Beq, 1, 1, true),
         (BranchKind::Beq, 1, 2, false),
@@ -148,17 +148,7 @@ fn branches_and_jumps(rt: HostRuntime) {
     ];
     for (kind, a, b, is_taken) in cases {
         let hart = hart_with(a, b);
-        let after = executed(
-            hart,
-            Insn::Branch {
-                kind,
-                rs1: 1,
-                rs2: 2,
-                imm: -8,
-            },
-            0,
-            0,
-        );
+        let after = executed(hart, branch(kind, -8), 0, 0);
         let want = if is_taken { 0x0000_fff8 } else { 0x0001_0004 };
         assert_eq!(rt;
             after.map(|hart| hart.pc),
@@ -166,57 +156,30 @@ fn branches_and_jumps(rt: HostRuntime) {
             "{kind:?} of {a} and {b}"
         );
         // Only a taken branch needs an aligned target.
-        let ask = begin(
-            &hart,
-            Insn::Branch {
-                kind,
-                rs1: 1,
-                rs2: 2,
-                imm: 2,
-            },
-        );
+        let ask = begin(&hart, branch(kind, 2));
         assert_eq!(rt; ask == Ask::Fault(Fault::FetchMisaligned), is_taken);
     }
+}
 
-    let to_x1 = Insn::Jalr {
-        rd: 0,
-        rs1: 1,
-        imm: 0,
-    };
-    let after = executed(hart_with(0x0001_0009, 0), to_x1, 0, 0);
-    assert_eq!(rt; after.map(|hart| hart.pc), Some(0x0001_0008));
+#[test]
+fn jumps_and_calls(rt: HostRuntime) {
+    let (rd, rs1, imm) = (0, 1, 0);
+    let to_x1 = Insn::Jalr { rd, rs1, imm };
     let ask = begin(&hart_with(0x0001_000a, 0), to_x1);
     assert_eq!(rt; ask, Ask::Fault(Fault::FetchMisaligned));
-    let after = executed(hart_with(0, 0), Insn::Jal { rd: 1, imm: 2048 }, 0, 0);
-    assert_eq!(rt;
-        after.map(|hart| (hart.regs[1], hart.pc)),
-        Some((0x0001_0004, 0x0001_0800))
-    );
-    let after = executed(
-        hart_with(0, 0),
-        Insn::Auipc {
-            rd: 1,
-            imm: 0xffff_f000,
-        },
-        0,
-        0,
-    );
-    assert_eq!(rt;
-        after.map(|hart| (hart.regs[1], hart.pc)),
-        Some((0x0000_f000, 0x0001_0004))
-    );
-    let after = executed(
-        hart_with(0, 0),
-        Insn::Lui {
-            rd: 1,
-            imm: 0xffff_f000,
-        },
-        0,
-        0,
-    );
-    assert_eq!(rt; after.map(|hart| hart.regs[1]), Some(0xffff_f000));
-    let after = executed(hart_with(0, 0), Insn::Fence, 0, 0);
-    assert_eq!(rt; after.map(|hart| hart.pc), Some(0x0001_0004));
+    let (rd, imm) = (1, 0xffff_f000);
+    // An instruction with a word in x1, and x1 and the pc after it.
+    for (insn, first, want) in [
+        (to_x1, 0x0001_0009, (0x0001_0009, 0x0001_0008)),
+        (Insn::Jal { rd, imm: 2048 }, 0, (0x0001_0004, 0x0001_0800)),
+        (Insn::Auipc { rd, imm }, 0, (0x0000_f000, 0x0001_0004)),
+        (Insn::Lui { rd, imm }, 0, (0xffff_f000, 0x0001_0004)),
+        (Insn::Fence, 0, (0, 0x0001_0004)),
+    ] {
+        let after = executed(hart_with(first, 0), insn, 0, 0);
+        let left = after.map(|hart| (hart.regs[1], hart.pc));
+        assert_eq!(rt; left, Some(want), "{insn:?}");
+    }
     assert_eq!(rt; begin(&hart_with(0, 0), Insn::Ecall), Ask::Ecall);
     assert_eq!(rt;
         begin(&hart_with(0, 0), Insn::Ebreak),
@@ -226,6 +189,7 @@ fn branches_and_jumps(rt: HostRuntime) {
 
 #[test]
 fn loads_and_stores(rt: HostRuntime) {
+    let (rd, rs1, imm) = (3, 1, -4);
     let loads = [
         (LoadKind::Lb, 0, Some(0x02)),
         (LoadKind::Lb, 1, Some(0x7f)),
@@ -242,18 +206,9 @@ fn loads_and_stores(rt: HostRuntime) {
         (LoadKind::Lw, 2, None),
     ];
     for (kind, offset, want) in loads {
-        let insn = Insn::Load {
-            kind,
-            rd: 3,
-            rs1: 1,
-            imm: -4,
-        };
-        let after = executed(
-            hart_with(0x0004_0004_u32.wrapping_add(offset), 0),
-            insn,
-            0,
-            0x8081_7f02,
-        );
+        let insn = Insn::Load { kind, rd, rs1, imm };
+        let hart = hart_with(0x0004_0004_u32.wrapping_add(offset), 0);
+        let after = executed(hart, insn, 0, 0x8081_7f02);
         assert_eq!(rt;
             after.map(|hart| hart.regs[3]),
             want,
@@ -289,7 +244,8 @@ fn loads_and_stores(rt: HostRuntime) {
 }
 
 #[test]
-fn updates_atomically(rt: HostRuntime) -> Result<(), Fail> {
+fn updates_atomically(rt: HostRuntime) {
+    let (rd, rs1, rs2) = (3, 1, 2);
     let cases = [
         (AmoKind::Add, 0xffff_ffff, 2, 1),
         (AmoKind::Swap, 1, 2, 2),
@@ -303,12 +259,7 @@ fn updates_atomically(rt: HostRuntime) -> Result<(), Fail> {
     ];
     for (kind, old, value, want) in cases {
         let hart = hart_with(0x0004_0000, value);
-        let insn = Insn::Amo {
-            kind,
-            rd: 3,
-            rs1: 1,
-            rs2: 2,
-        };
+        let insn = Insn::Amo { kind, rd, rs1, rs2 };
         assert_eq!(rt;
             stored(&hart, insn, 0, old),
             Some(want),
@@ -319,15 +270,12 @@ fn updates_atomically(rt: HostRuntime) -> Result<(), Fail> {
             Some(old)
         );
     }
+}
 
-    let (lr, sc) = (
-        Insn::Lr { rd: 3, rs1: 1 },
-        Insn::Sc {
-            rd: 3,
-            rs1: 1,
-            rs2: 2,
-        },
-    );
+#[test]
+fn keeps_and_ends_reservations(rt: HostRuntime) -> Result<(), Fail> {
+    let (rd, rs1, rs2) = (3, 1, 2);
+    let (lr, sc) = (Insn::Lr { rd, rs1 }, Insn::Sc { rd, rs1, rs2 });
     let reserved = executed(hart_with(0x0004_0000, 5), lr, 7, 9).ok_or("not finished")?;
     assert_eq!(rt;
         (reserved.regs[3], reserved.kept),
@@ -359,36 +307,14 @@ fn claims_and_numbers(rt: HostRuntime) {
         (Op::TakeInput { want: 4, total: 10 }, 8, 10),
         (Op::TakeInput { want: 4, total: 10 }, 12, 12),
         (Op::Place { len: 3 }, 0xffff_fffe, 1),
-        (
-            Op::Break {
-                want: 6,
-                low: 6,
-                high: 8,
-            },
-            7,
-            6,
-        ),
-        (
-            Op::Break {
-                want: 9,
-                low: 6,
-                high: 8,
-            },
-            7,
-            7,
-        ),
-        (
-            Op::Break {
-                want: 5,
-                low: 6,
-                high: 8,
-            },
-            7,
-            7,
-        ),
     ];
     for (op, payload, want) in cases {
         assert_eq!(rt; apply(op, 0, payload), want, "{op:?} on {payload}");
+    }
+    let (low, high) = (6, 8);
+    for (want, left) in [(6, 6), (9, 7), (5, 7)] {
+        let op = Op::Break { want, low, high };
+        assert_eq!(rt; apply(op, 0, 7), left, "{op:?} on 7");
     }
     let faults = [
         Fault::Illegal,
