@@ -39,5 +39,13 @@ fn main(rt: HostRuntime) -> ExitCode {
     let mut out = HostSink::new(rt.stdout());
     let mut report = HostSink::new(rt.stderr());
     let alloc = rt.alloc();
-    ExitCode::from(command(&rt, alloc, &words, &mut files, &mut out, &mut report, &OpenGate))
+    ExitCode::from(command(
+        &rt,
+        alloc,
+        &words,
+        &mut files,
+        &mut out,
+        &mut report,
+        &OpenGate,
+    ))
 }

@@ -1,55 +1,26 @@
 //! Commands on images in memory: what guests write, what is refused, and what is left where calls fail.
 use super::*;
-use outside::{MemFiles, MemSink};
+use crate::offline::offline;
+use guest_images::{HI, echo_image, file_of, push_words, small_image};
+use outside::{Gate, MemFiles, MemSink};
 use std::alloc::{AllocError, Global};
 use std::process::Abort;
+use std::sync::Wait;
 use std::test::Fail;
+use std::thread::Threads;
 
 mod examples;
 mod faults;
+mod gates;
 mod guests;
 mod maps;
 mod memory;
 mod policies;
+mod races;
 mod refusals;
 mod replays;
 
-/// The headers of a small image, up to the two sizes of its segment.
-const HEADERS: [u32; 17] = [
-    0x464c_457f,
-    0x0001_0101,
-    0,
-    0,
-    0x00f3_0002,
-    1,
-    0x0001_0000,
-    52,
-    0,
-    0,
-    0x0020_0034,
-    1,
-    0,
-    1,
-    84,
-    0x0001_0000,
-    0x0001_0000,
-];
-
-/// Writes `hi` and a line feed, and exits with 0.
-const HI: [u32; 10] = [
-    0x0001_05b7,
-    0x0245_8593,
-    0x0010_0513,
-    0x0030_0613,
-    0x0400_0893,
-    0x0000_0073,
-    0x0000_0513,
-    0x05d0_0893,
-    0x0000_0073,
-    0x000a_6968,
-];
-
-/// What that guest writes.
+/// What `hi` writes.
 const HI_OUTPUT: &[u8] = b"hi\n";
 
 /// The report of its run: thirteen units, one of which reads the word with `hi`, and one claims its output.
@@ -88,71 +59,6 @@ const HI_MAP: &[u8] = b"entry 00010000\n\
     break 00011000 00111000\n\
     stack 0 efff0000 f0000000\n\
     words 279555\n";
-
-/// The program headers of an image: one of the processor's own, two that load, and the stack's.
-const ECHO_TABLE: [[u32; 8]; 4] = [
-    [0x7000_0003, 0, 0, 0, 0, 0, 0, 0],
-    [1, 0, 0x0001_0000, 0x0001_0000, 0xf0, 0xf0, 5, 0x1000],
-    [1, 0x1000, 0x0001_1000, 0x0001_1000, 4, 16, 6, 0x1000],
-    [0x6474_e551, 0, 0, 0, 0, 0, 6, 16],
-];
-
-/// Its words: reads up to 64 bytes, writes them, stores their count and exits with 0.
-const ECHO: [u32; 15] = [
-    0xfc01_0113,
-    0x0000_0513,
-    0x0001_0593,
-    0x0400_0613,
-    0x03f0_0893,
-    0x0000_0073,
-    0x0005_0613,
-    0x0010_0513,
-    0x0400_0893,
-    0x0000_0073,
-    0x0001_12b7,
-    0x00c2_a023,
-    0x0000_0513,
-    0x05d0_0893,
-    0x0000_0073,
-];
-
-fn push_words(bytes: &mut Vec<u8>, words: &[u32]) -> Result<(), AllocError> {
-    for word in words {
-        bytes.extend_from_slice(&word.to_le_bytes())?;
-    }
-    Ok(())
-}
-
-/// A file of these words.
-fn file_of(alloc: Global, words: &[u32]) -> Result<Vec<u8>, AllocError> {
-    let mut bytes = Vec::new(alloc);
-    push_words(&mut bytes, words)?;
-    Ok(bytes)
-}
-
-/// The small image of a program: one segment at 0x10000, which may be read, written and executed.
-fn image(alloc: Global, program: &[u32]) -> Result<Vec<u8>, AllocError> {
-    let size = u32::try_from(program.len()).unwrap_or(0).wrapping_mul(4);
-    let mut bytes = Vec::new(alloc);
-    push_words(&mut bytes, &HEADERS)?;
-    push_words(&mut bytes, &[size, size, 7, 4])?;
-    push_words(&mut bytes, program)?;
-    Ok(bytes)
-}
-
-/// An image of four program headers, where the ELF header has these flags.
-fn echo_image(alloc: Global, flags: u32) -> Result<Vec<u8>, AllocError> {
-    let mut bytes = Vec::new(alloc);
-    push_words(&mut bytes, &HEADERS[..6])?;
-    push_words(&mut bytes, &[0x0001_00b4, 52, 0, flags, 0x0020_0034, 4, 0])?;
-    for header in &ECHO_TABLE {
-        push_words(&mut bytes, header)?;
-    }
-    push_words(&mut bytes, &ECHO)?;
-    bytes.resize(0x1000, 0)?;
-    bytes.extend_from_slice(&[1, 0, 0, 0])?;
-    Ok(bytes)
-}
 
 fn strings(alloc: Global, words: &[&str]) -> Result<Vec<String>, AllocError> {
     let mut strings = Vec::new(alloc);
@@ -194,9 +100,28 @@ impl Surroundings {
         })
     }
 
-    /// The status of a command.
-    fn status_of(&mut self, alloc: Global, words: &[String]) -> u8 {
+    /// The status of a command whose actors pass this gate.
+    fn status_at<G: Gate, X: Threads + Wait + Sync>(
+        &mut self,
+        rt: &X,
+        alloc: Global,
+        words: &[String],
+        gate: &G,
+    ) -> u8 {
         command(
+            rt,
+            alloc,
+            words,
+            &mut self.files,
+            &mut self.out,
+            &mut self.report,
+            gate,
+        )
+    }
+
+    /// The status of a command that runs nothing.
+    fn status_offline(&mut self, alloc: Global, words: &[String]) -> u8 {
+        offline(
             alloc,
             words,
             &mut self.files,
@@ -206,9 +131,14 @@ impl Surroundings {
     }
 
     /// The status of a command of these words.
-    fn command(&mut self, alloc: Global, words: &[&str]) -> Result<u8, AllocError> {
+    fn command<X: Threads + Wait + Sync>(
+        &mut self,
+        rt: &X,
+        alloc: Global,
+        words: &[&str],
+    ) -> Result<u8, AllocError> {
         let words = strings(alloc, words)?;
-        Ok(self.status_of(alloc, &words))
+        Ok(self.status_at(rt, alloc, &words, &OpenGate))
     }
 }
 
@@ -263,15 +193,19 @@ fn try_replay(rt: &impl Abort, alloc: Global, case: &Case<'_>, report: &[u8]) ->
             words.push(String::from_str(alloc, files[1])?)?;
         }
     }
-    assert_eq!(rt; around.status_of(alloc, &words), 0, "{name}");
+    assert_eq!(rt; around.status_offline(alloc, &words), 0, "{name}");
     assert_eq!(rt; around.out.bytes(), SAME, "{name}");
     assert!(rt; around.report.bytes().is_empty(), "{name}");
     Ok(())
 }
 
-/// Runs a case, compares what it left, and replays its report.
-fn try_case(rt: &impl Abort, alloc: Global, case: &Case<'_>) -> Result<(), Fail> {
-    let name = case.name;
+/// The status of a case whose actors pass this gate, and what it left.
+fn left_by<G: Gate, X: Threads + Wait + Sync>(
+    rt: &X,
+    alloc: Global,
+    case: &Case<'_>,
+    gate: &G,
+) -> Result<(u8, Surroundings), AllocError> {
     let mut around = Surroundings::ample(alloc, case.image)?;
     around.files.add(alloc, "input", case.input)?;
     around.files.add(alloc, "policy.toml", case.policy)?;
@@ -279,12 +213,36 @@ fn try_case(rt: &impl Abort, alloc: Global, case: &Case<'_>) -> Result<(), Fail>
     for option in case.options {
         words.push(String::from_str(alloc, option)?)?;
     }
-    assert_eq!(rt; around.status_of(alloc, &words), case.status, "{name}");
+    let status = around.status_at(rt, alloc, &words, gate);
+    Ok((status, around))
+}
+
+/// Runs a case whose actors pass this gate, compares what it left, and replays its report.
+fn try_case_at<G: Gate, X: Abort + Threads + Wait + Sync>(
+    rt: &X,
+    alloc: Global,
+    case: &Case<'_>,
+    gate: &G,
+) -> Result<Surroundings, Fail> {
+    let name = case.name;
+    let (status, around) = left_by(rt, alloc, case, gate)?;
+    assert_eq!(rt; status, case.status, "{name}");
     assert_eq!(rt; around.out.bytes(), case.out, "{name}");
     let report = around.report.bytes();
     let mut head = Vec::from_slice(alloc, b"taint-report 1\n")?;
     head.extend_from_slice(case.head)?;
     assert!(rt; report.starts_with(&head), "{name}");
     assert!(rt; report.ends_with(case.tail), "{name}");
-    try_replay(rt, alloc, case, report)
+    try_replay(rt, alloc, case, report)?;
+    Ok(around)
+}
+
+/// Runs a case, compares what it left, and replays its report.
+fn try_case<X: Abort + Threads + Wait + Sync>(
+    rt: &X,
+    alloc: Global,
+    case: &Case<'_>,
+) -> Result<(), Fail> {
+    try_case_at(rt, alloc, case, &OpenGate)?;
+    Ok(())
 }

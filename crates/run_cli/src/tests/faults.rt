@@ -1,5 +1,6 @@
 //! Calls of the files and of the sinks that fail, each in turn, and sinks with little room.
 use super::*;
+use guest_images::COUNT;
 
 /// A command on `hi` that is not refused: its words, the line where each of its readings fails, in their order, and what it
 /// writes.
@@ -62,7 +63,7 @@ fn around(
     out: usize,
     report: usize,
 ) -> Result<Surroundings, AllocError> {
-    let bytes = image(alloc, &HI)?;
+    let bytes = small_image(alloc, &HI)?;
     let mut files = MemFiles::new(alloc, &[reading])?;
     files.add(alloc, "guest.elf", &bytes)?;
     files.add(alloc, "policy.toml", b"version = 1\npolicy = []\n")?;
@@ -85,13 +86,13 @@ fn each_reading_fails_in_turn(rt: HostRuntime) -> Result<(), Fail> {
         let mut readings = 0;
         for line in done.lines {
             let mut around = around(alloc, readings, 8192, 8192)?;
-            assert_eq!(rt; around.command(alloc, done.words)?, 74, "{readings}");
+            assert_eq!(rt; around.command(&rt, alloc, done.words)?, 74, "{readings}");
             readings = around.files.calls();
             assert_eq!(rt; around.out.calls(), 0);
             assert_eq!(rt; around.report.bytes(), *line);
         }
         let mut around = around(alloc, readings, 8192, 8192)?;
-        assert_eq!(rt; around.command(alloc, done.words)?, 0);
+        assert_eq!(rt; around.command(&rt, alloc, done.words)?, 0);
         assert_eq!(rt; around.files.calls(), readings);
     }
     Ok(())
@@ -105,7 +106,7 @@ fn each_write_of_the_output_fails_in_turn(rt: HostRuntime) -> Result<(), Fail> {
         for call in 0..1000 {
             let mut around = around(alloc, NEVER, 8192, 8192)?;
             around.out = MemSink::new(alloc, done.out.len(), &[call])?;
-            let status = around.command(alloc, done.words)?;
+            let status = around.command(&rt, alloc, done.words)?;
             if around.out.calls() <= call {
                 assert_eq!(rt; status, 0);
                 covered = call;
@@ -129,7 +130,7 @@ fn each_write_of_the_report_fails_in_turn(rt: HostRuntime) -> Result<(), Fail> {
     for call in 0..1000 {
         let mut around = around(alloc, NEVER, 8192, 8192)?;
         around.report = MemSink::new(alloc, 349, &[call])?;
-        let status = around.command(alloc, &RUN)?;
+        let status = around.command(&rt, alloc, &RUN)?;
         assert_eq!(rt; around.out.bytes(), HI_OUTPUT, "call {call}");
         if around.report.calls() <= call {
             assert_eq!(rt; status, 0);
@@ -154,7 +155,7 @@ fn little_room_cuts_the_output(rt: HostRuntime) -> Result<(), Fail> {
                 break;
             }
             let mut around = around(alloc, NEVER, room, 8192)?;
-            assert_eq!(rt; around.command(alloc, done.words)?, 75, "room {room}");
+            assert_eq!(rt; around.command(&rt, alloc, done.words)?, 75, "room {room}");
             assert!(rt; done.out.starts_with(around.out.bytes()), "room {room}");
             assert_eq!(rt; around.out.bytes().len(), room);
             assert_eq!(rt; around.report.calls(), 0, "room {room}");
@@ -163,35 +164,34 @@ fn little_room_cuts_the_output(rt: HostRuntime) -> Result<(), Fail> {
     Ok(())
 }
 
-/// Adds 1 to a word until its budget is spent.
-const COUNT: [u32; 9] = [
-    0x000112b7, 0x00100313, 0x3e800393, 0x0062a02f, 0xfff38393, 0xfe039ce3, 0x00000513, 0x05d00893,
-    0x00000073,
-];
-
-/// Runs it for 700 units, with this room for the report and one write of it that fails.
-fn run_long(alloc: Global, room: usize, call: u64) -> Result<(u8, Surroundings), AllocError> {
-    let bytes = image(alloc, &COUNT)?;
+/// Runs a guest that adds 1 to a word for 700 units, with this room for the report and one write of it that fails.
+fn run_long<X: Threads + Wait + Sync>(
+    rt: &X,
+    alloc: Global,
+    room: usize,
+    call: u64,
+) -> Result<(u8, Surroundings), AllocError> {
+    let bytes = small_image(alloc, &COUNT)?;
     let mut around = Surroundings::ample(alloc, &bytes)?;
     around.report = MemSink::new(alloc, room, &[call])?;
     let words = ["run", "--image=guest.elf", "--budget=700"];
-    let status = around.command(alloc, &words)?;
+    let status = around.command(rt, alloc, &words)?;
     Ok((status, around))
 }
 
 #[test]
 fn rooms_at_the_border_of_each_piece_cut_a_long_report(rt: HostRuntime) -> Result<(), Fail> {
     let alloc = rt.alloc();
-    let (status, whole) = run_long(alloc, 65_536, NEVER)?;
+    let (status, whole) = run_long(&rt, alloc, 65_536, NEVER)?;
     assert_eq!(rt; status, 4);
     let pieces = whole.report.calls();
     assert!(rt; pieces >= 2);
     for call in 0..pieces {
         // What stands before the piece of this number.
-        let (_, cut) = run_long(alloc, 65_536, call)?;
+        let (_, cut) = run_long(&rt, alloc, 65_536, call)?;
         let border = cut.report.bytes().len();
         for room in border.saturating_sub(1)..border + 2 {
-            let (status, left) = run_long(alloc, room, NEVER)?;
+            let (status, left) = run_long(&rt, alloc, room, NEVER)?;
             let text = whole.report.bytes();
             assert_eq!(rt; status, 75, "room {room}");
             assert!(rt; text.starts_with(left.report.bytes()), "room {room}");
@@ -266,7 +266,7 @@ fn a_refusal_keeps_its_status_where_its_line_fails(rt: HostRuntime) -> Result<()
         for call in 0..1000 {
             let mut around = Surroundings::ample(alloc, image)?;
             around.report = MemSink::new(alloc, line.len(), &[call])?;
-            assert_eq!(rt; around.command(alloc, words)?, status, "call {call}");
+            assert_eq!(rt; around.command(&rt, alloc, words)?, status, "call {call}");
             assert_eq!(rt; around.out.calls(), 0, "call {call}");
             let written = around.report.bytes();
             if around.report.calls() <= call {
@@ -295,7 +295,7 @@ fn a_refusal_keeps_its_status_in_little_room(rt: HostRuntime) -> Result<(), Fail
         for room in 0..line.len() {
             let mut around = Surroundings::ample(alloc, image)?;
             around.report = MemSink::new(alloc, room, &[])?;
-            assert_eq!(rt; around.command(alloc, words)?, status, "room {room}");
+            assert_eq!(rt; around.command(&rt, alloc, words)?, status, "room {room}");
             assert_eq!(rt; around.out.calls(), 0, "room {room}");
             assert!(rt; line.starts_with(around.report.bytes()), "room {room}");
             assert_eq!(rt; around.report.bytes().len(), room, "{status}");

@@ -1,8 +1,8 @@
 //! Guests that run to their ends.
 use super::*;
 use elf_image::load;
+use guest_images::{HEADERS, LRSC};
 use inline_tracker::{Setup, Stepped, Tracker, status_of};
-use std::str::from_utf8;
 use syscall_drain::{End, Guest};
 use tag_policy::Policy;
 
@@ -33,24 +33,6 @@ const RESERVE: [u32; 6] = [
 /// The same with `lw t2, 0(t0)` in place of the addition.
 const READ_BETWEEN: [u32; 6] = [
     0xff010293, 0x1002a32f, 0x0002a383, 0x1862a52f, 0x05d00893, 0x00000073,
-];
-
-/// Core 0 adds 1 to a word by load-reserved and store-conditional, and exits with what the latter gave; core 1 stores.
-const LRSC: [u32; 9] = [
-    0x000112b7, 0x00051863, 0x1002a32f, 0x1862a3af, 0x0080006f, 0x0002a023, 0x05d00893, 0x00038513,
-    0x00000073,
-];
-
-/// Each core stores 1 to a word of its own, and exits with what it then loads from the word of the other core.
-const STORE_BUFFERING: [u32; 11] = [
-    0x000112b7, 0x00251313, 0x00628333, 0x00154393, 0x00239393, 0x007283b3, 0x00100413, 0x00832023,
-    0x0003a503, 0x05d00893, 0x00000073,
-];
-
-/// Adds 1 to a word a thousand times.
-const COUNT: [u32; 9] = [
-    0x000112b7, 0x00100313, 0x3e800393, 0x0062a02f, 0xfff38393, 0xfe039ce3, 0x00000513, 0x05d00893,
-    0x00000073,
 ];
 
 /// Asks for the break with a wish of 0, and exits with what it was told, divided by 4,096.
@@ -92,10 +74,10 @@ fn two_segments(alloc: Global, program: &[u32]) -> Result<Vec<u8>, AllocError> {
 #[test]
 fn hi_has_its_whole_report(rt: HostRuntime) -> Result<(), Fail> {
     let alloc = rt.alloc();
-    let bytes = image(alloc, &HI)?;
+    let bytes = small_image(alloc, &HI)?;
     let mut around = Surroundings::ample(alloc, &bytes)?;
     let words = ["run", "--image=guest.elf", "--cores=1"];
-    assert_eq!(rt; around.command(alloc, &words)?, 0);
+    assert_eq!(rt; around.command(&rt, alloc, &words)?, 0);
     assert_eq!(rt; around.out.bytes(), HI_OUTPUT);
     assert_eq!(rt; around.report.bytes(), HI_REPORT);
     assert_eq!(rt; around.report.bytes().len(), 349);
@@ -173,7 +155,7 @@ fn guests_on_one_core_run_to_their_ends(rt: HostRuntime) -> Result<(), Fail> {
         ),
     ];
     for (guest, program, status, rest, tail) in cases {
-        let bytes = image(alloc, program)?;
+        let bytes = small_image(alloc, program)?;
         let mut head = Vec::from_slice(alloc, USUAL)?;
         head.extend_from_slice(rest)?;
         let case = Case {
@@ -186,52 +168,10 @@ fn guests_on_one_core_run_to_their_ends(rt: HostRuntime) -> Result<(), Fail> {
 }
 
 #[test]
-fn cores_share_words_and_have_stacks_of_their_own(rt: HostRuntime) -> Result<(), Fail> {
+fn cores_have_stacks_of_their_own(rt: HostRuntime) -> Result<(), Fail> {
     let alloc = rt.alloc();
-    let count = image(alloc, &COUNT)?;
-    let buffering = image(alloc, &STORE_BUFFERING)?;
-    let stack = image(alloc, &OWN_STACK)?;
-    let echo = echo_image(alloc, 0)?;
-    let fine = b"traps 0\nends 2\n0 exit 0\n1 exit 0\nend\n";
-    let echoed = &["--cores", "2", "--input", "input"];
+    let stack = small_image(alloc, &OWN_STACK)?;
     let cases = [
-        Case {
-            options: &["--cores", "8"],
-            head: b"cores 8\nbudget 1048576\nlimit 4294967280\nstack 16\nheap 256\nunits 24048\n",
-            ..plain("count", &count, 0, b"", b"6 exit 0\n7 exit 0\nend\n")
-        },
-        Case {
-            options: &["--limit", "1", "--cores", "2"],
-            head: b"cores 2\nbudget 1048576\nlimit 1\nstack 16\nheap 256\nunits 11\n\
-                0\n1\n0\n1\n0\n1\n0 1027 0 00000000\n1 1027 1 00000001\n0\n0\n0 1027 2 00000001\n",
-            ..plain(
-                "spent",
-                &count,
-                5,
-                b"",
-                b"calls 0\ntraps 0\nends 2\n0 spent\n1 spent\nend\n",
-            )
-        },
-        Case {
-            options: &["--heap", "0"],
-            ..plain(
-                "no heap",
-                &count,
-                3,
-                b"",
-                b"traps 0\nends 1\n0 fault 7\nend\n",
-            )
-        },
-        Case {
-            options: &["--cores", "2"],
-            ..plain(
-                "store buffering",
-                &buffering,
-                1,
-                b"",
-                b"ends 2\n0 exit 1\n1 exit 1\nend\n",
-            )
-        },
         Case {
             options: &["--stack", "2", "--cores", "2"],
             ..plain(
@@ -243,7 +183,7 @@ fn cores_share_words_and_have_stacks_of_their_own(rt: HostRuntime) -> Result<(),
             )
         },
         Case {
-            options: &["--stack=1", "--cores=2"],
+            options: &["--stack", "1", "--cores", "2"],
             ..plain(
                 "one page of stack",
                 &stack,
@@ -251,17 +191,6 @@ fn cores_share_words_and_have_stacks_of_their_own(rt: HostRuntime) -> Result<(),
                 b"",
                 b"ends 2\n0 fault 7\n1 fault 7\nend\n",
             )
-        },
-        Case {
-            options: echoed,
-            input: b"hello\n",
-            head: b"cores 2\nbudget 1048576\nlimit 4294967280\nstack 16\nheap 256\nunits 42\n",
-            ..plain("echo", &echo, 0, b"hello\n", fine)
-        },
-        Case {
-            options: echoed,
-            head: b"cores 2\nbudget 1048576\nlimit 4294967280\nstack 16\nheap 256\nunits 36\n",
-            ..plain("echo of nothing", &echo, 0, b"", fine)
         },
     ];
     for case in cases {
@@ -290,26 +219,6 @@ fn a_write_crosses_pages_and_pages_join_permissions(rt: HostRuntime) -> Result<(
 }
 
 #[test]
-fn each_access_to_a_shared_word_has_the_next_number(rt: HostRuntime) -> Result<(), Fail> {
-    let alloc = rt.alloc();
-    let bytes = image(alloc, &COUNT)?;
-    let mut around = Surroundings::ample(alloc, &bytes)?;
-    let words = ["run", "--image", "guest.elf", "--cores", "8"];
-    assert_eq!(rt; around.command(alloc, &words)?, 0);
-    let mut next: u32 = 0;
-    for line in around.report.bytes().split(|byte| *byte == b'\n') {
-        let line = from_utf8(line)?;
-        let Some((_, access)) = line.split_once(" 1027 ") else {
-            continue;
-        };
-        assert_eq!(rt; access, format!(in alloc; "{next} {next:08x}")?.as_str());
-        next = next.wrapping_add(1);
-    }
-    assert_eq!(rt; next, 8000);
-    Ok(())
-}
-
-#[test]
 fn a_store_of_another_core_ends_a_reservation(rt: HostRuntime) -> Result<(), Fail> {
     let alloc = rt.alloc();
     // The order of the cores' units, and the ends of core 0 and core 1.
@@ -318,7 +227,7 @@ fn a_store_of_another_core_ends_a_reservation(rt: HostRuntime) -> Result<(), Fai
         ([0, 0, 0, 0, 0, 0, 0, 0, 1, 1, 1, 1, 1, 1], End::Exit(0), 0),
     ];
     for (order, end, class) in cases {
-        let bytes = image(alloc, &LRSC)?;
+        let bytes = small_image(alloc, &LRSC)?;
         let guest = Guest::new(load(alloc, &bytes, 2, 16, 256)?, Vec::new(alloc));
         let setup = Setup::new(guest, Policy::standard(), 1_048_576, 4_294_967_280);
         let mut tracker = Tracker::create(alloc, &setup)?;

@@ -19,7 +19,7 @@ const SMALL_MAP: &[u8] = b"entry 00010000\n\
 #[test]
 fn maps_are_told(rt: HostRuntime) -> Result<(), Fail> {
     let alloc = rt.alloc();
-    let hi = image(alloc, &HI)?;
+    let hi = small_image(alloc, &HI)?;
     let echo = echo_image(alloc, 0)?;
     let small: &[&str] = &[
         "inspect",
@@ -66,7 +66,7 @@ fn maps_are_told(rt: HostRuntime) -> Result<(), Fail> {
     ];
     for (words, bytes, status, out, report) in cases {
         let mut around = Surroundings::ample(alloc, bytes)?;
-        assert_eq!(rt; around.command(alloc, words)?, status, "{words:?}");
+        assert_eq!(rt; around.command(&rt, alloc, words)?, status, "{words:?}");
         assert_eq!(rt; around.out.bytes(), out, "{words:?}");
         assert_eq!(rt; around.report.bytes(), report, "{words:?}");
     }

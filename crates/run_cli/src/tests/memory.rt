@@ -69,14 +69,18 @@ fn answers<'a>(hi: &'a [u8], flags: &'a [u8]) -> [Answer<'a>; 7] {
 
 /// The image of `hi`, and one with other flags.
 fn images(alloc: Global) -> Result<(Vec<u8>, Vec<u8>), AllocError> {
-    Ok((image(alloc, &HI)?, echo_image(alloc, 1)?))
+    Ok((small_image(alloc, &HI)?, echo_image(alloc, 1)?))
 }
 
 /// The status of a command, and what it left.
-fn answered(alloc: Global, answer: &Answer<'_>) -> Result<(u8, Surroundings), AllocError> {
+fn answered<X: Threads + Wait + Sync>(
+    rt: &X,
+    alloc: Global,
+    answer: &Answer<'_>,
+) -> Result<(u8, Surroundings), AllocError> {
     let mut around = Surroundings::ample(alloc, answer.image)?;
     around.files.add(alloc, "report.txt", HI_REPORT)?;
-    let status = around.command(alloc, answer.words)?;
+    let status = around.command(rt, alloc, answer.words)?;
     Ok((status, around))
 }
 
@@ -88,7 +92,7 @@ fn want_of_memory_is_the_only_other_answer(rt: HostRuntime) -> Result<(), Fail> 
         return Ok(());
     };
     for answer in answers(&hi, &flags) {
-        let Ok((status, around)) = answered(alloc, &answer) else {
+        let Ok((status, around)) = answered(&rt, alloc, &answer) else {
             return Ok(());
         };
         let (own, out, report) = if status == 71 {

@@ -1,37 +1,14 @@
 //! Policies: what they stop, and where.
 use super::*;
-
-/// Reads four bytes and jumps to the address that they are, at which it stores twice and then asks for a write.
-const JUMP: [u32; 13] = [
-    0x00000513, 0x000115b7, 0x00400613, 0x03f00893, 0x00000073, 0x0005a283, 0x00028067, 0x00000013,
-    0x00c5a223, 0x00c5a423, 0x00100513, 0x04000893, 0x00000073,
-];
-
-/// Reads four bytes and writes them.
-const PASS: [u32; 11] = [
-    0x00000513, 0x000115b7, 0x00400613, 0x03f00893, 0x00000073, 0x00100513, 0x04000893, 0x00000073,
-    0x00000513, 0x05d00893, 0x00000073,
-];
-
-/// Reads five bytes to the last two of a word and the first three of the next, and writes them.
-const ODD: [u32; 12] = [
-    0x00000513, 0x000115b7, 0x00258593, 0x00500613, 0x03f00893, 0x00000073, 0x00100513, 0x04000893,
-    0x00000073, 0x00000513, 0x05d00893, 0x00000073,
-];
-
-/// Reads one byte, loads the byte after it, and jumps by that.
-const BYTE_JUMP: [u32; 13] = [
-    0x00000513, 0x000115b7, 0x00100613, 0x03f00893, 0x00000073, 0x0015c283, 0x00010337, 0x006282b3,
-    0x02828067, 0x00000013, 0x00000513, 0x05d00893, 0x00000073,
-];
+use guest_images::{BYTE_JUMP, JUMP, ODD, PASS};
 
 #[test]
 fn policies_stop_what_they_check(rt: HostRuntime) -> Result<(), Fail> {
     let alloc = rt.alloc();
-    let jump = image(alloc, &JUMP)?;
-    let pass = image(alloc, &PASS)?;
-    let odd = image(alloc, &ODD)?;
-    let byte_jump = image(alloc, &BYTE_JUMP)?;
+    let jump = small_image(alloc, &JUMP)?;
+    let pass = small_image(alloc, &PASS)?;
+    let odd = small_image(alloc, &ODD)?;
+    let byte_jump = small_image(alloc, &BYTE_JUMP)?;
     let target = b"\x20\x00\x01\x00";
     let sink = b"version = 1\n[[policy]]\nsource = true\ncheck_sink = true\n";
     let bytes =

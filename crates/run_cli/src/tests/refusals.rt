@@ -10,7 +10,7 @@ fn zeros(alloc: Global, count: usize) -> Result<Vec<u8>, AllocError> {
 #[test]
 fn other_files_are_refused(rt: HostRuntime) -> Result<(), Fail> {
     let alloc = rt.alloc();
-    let hi = image(alloc, &HI)?;
+    let hi = small_image(alloc, &HI)?;
     let flags = echo_image(alloc, 1)?;
     let long_image = zeros(alloc, 33_554_433)?;
     let long_input = zeros(alloc, 16_777_217)?;
@@ -57,7 +57,11 @@ fn other_files_are_refused(rt: HostRuntime) -> Result<(), Fail> {
         around.files.add(alloc, "policy.toml", policy)?;
         around.files.add(alloc, "input", input)?;
         let length = bytes.len();
-        assert_eq!(rt; around.command(alloc, &words)?, status, "{length} bytes");
+        assert_eq!(rt;
+            around.command(&rt, alloc, &words)?,
+            status,
+            "{length} bytes"
+        );
         assert_eq!(rt; around.out.calls(), 0, "{length} bytes");
         assert_eq!(rt; around.report.bytes(), line, "{length} bytes");
     }
@@ -67,7 +71,7 @@ fn other_files_are_refused(rt: HostRuntime) -> Result<(), Fail> {
 #[test]
 fn other_words_are_refused(rt: HostRuntime) -> Result<(), Fail> {
     let alloc = rt.alloc();
-    let bytes = image(alloc, &HI)?;
+    let bytes = small_image(alloc, &HI)?;
     let cases: [&[&str]; 23] = [
         &[],
         &["--help"],
@@ -102,7 +106,7 @@ fn other_words_are_refused(rt: HostRuntime) -> Result<(), Fail> {
         let mut around = Surroundings::ample(alloc, &bytes)?;
         around.files.add(alloc, "-guest.elf", &bytes)?;
         around.files.add(alloc, "", &bytes)?;
-        assert_eq!(rt; around.command(alloc, words)?, 64, "{words:?}");
+        assert_eq!(rt; around.command(&rt, alloc, words)?, 64, "{words:?}");
         assert_eq!(rt; around.report.bytes(), b"refused 64 words\n".as_slice());
         assert_eq!(rt; around.out.calls(), 0, "{words:?}");
         assert_eq!(rt; around.files.calls(), 0, "{words:?}");

@@ -15,17 +15,17 @@ fn changed(alloc: Global, text: &[u8], old: &[u8], new: &[u8]) -> Result<Vec<u8>
 }
 
 /// Replays a report of `hi`, and compares what is answered.
-fn try_report(
-    rt: &impl Abort,
+fn try_report<X: Abort + Threads + Wait + Sync>(
+    rt: &X,
     alloc: Global,
     report: &[u8],
     status: u8,
     line: &[u8],
 ) -> Result<(), Fail> {
-    let image = image(alloc, &HI)?;
+    let image = small_image(alloc, &HI)?;
     let mut around = Surroundings::ample(alloc, &image)?;
     around.files.add(alloc, "report.txt", report)?;
-    assert_eq!(rt; around.command(alloc, &REPLAY)?, status, "{line:?}");
+    assert_eq!(rt; around.command(rt, alloc, &REPLAY)?, status, "{line:?}");
     let out = if status == 0 { SAME } else { b"" };
     assert_eq!(rt; around.out.bytes(), out, "{line:?}");
     assert_eq!(rt; around.report.bytes(), line);
@@ -129,7 +129,7 @@ fn the_first_bad_line_is_told(rt: HostRuntime) -> Result<(), Fail> {
 #[test]
 fn files_of_a_replay_are_refused_in_their_order(rt: HostRuntime) -> Result<(), Fail> {
     let alloc = rt.alloc();
-    let hi = image(alloc, &HI)?;
+    let hi = small_image(alloc, &HI)?;
     let short = changed(alloc, HI_REPORT, b"units 13\n0\n", b"units 12\n")?;
     let policy = b"version = 1\npolicy = []\n";
     // The report, the image, the policy, the status, and the line.
@@ -155,7 +155,7 @@ fn files_of_a_replay_are_refused_in_their_order(rt: HostRuntime) -> Result<(), F
         let mut around = Surroundings::ample(alloc, image)?;
         around.files.add(alloc, "report.txt", report)?;
         around.files.add(alloc, "policy.toml", policy)?;
-        assert_eq!(rt; around.command(alloc, &words)?, status);
+        assert_eq!(rt; around.command(&rt, alloc, &words)?, status);
         assert_eq!(rt; around.out.calls(), 0);
         assert_eq!(rt; around.report.bytes(), line);
     }
@@ -165,7 +165,7 @@ fn files_of_a_replay_are_refused_in_their_order(rt: HostRuntime) -> Result<(), F
 #[test]
 fn offline_does_all_but_run(rt: HostRuntime) -> Result<(), Fail> {
     let alloc = rt.alloc();
-    let hi = image(alloc, &HI)?;
+    let hi = small_image(alloc, &HI)?;
     let inspect = ["inspect", "--image", "guest.elf"];
     let cases: [(&[&str], u8, &[u8], &[u8]); 3] = [
         (&REPLAY, 0, SAME, b""),
@@ -176,15 +176,9 @@ fn offline_does_all_but_run(rt: HostRuntime) -> Result<(), Fail> {
         let mut around = Surroundings::ample(alloc, &hi)?;
         around.files.add(alloc, "report.txt", HI_REPORT)?;
         let words = strings(alloc, words)?;
-        let Surroundings {
-            mut files,
-            out: mut output,
-            report: mut line,
-        } = around;
-        let answer = offline::offline(alloc, &words, &mut files, &mut output, &mut line);
-        assert_eq!(rt; answer, status);
-        assert_eq!(rt; output.bytes(), out);
-        assert_eq!(rt; line.bytes(), report);
+        assert_eq!(rt; around.status_offline(alloc, &words), status);
+        assert_eq!(rt; around.out.bytes(), out);
+        assert_eq!(rt; around.report.bytes(), report);
     }
     Ok(())
 }

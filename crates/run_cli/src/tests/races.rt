@@ -1,0 +1,215 @@
+//! Guests whose cores race, and what their reports tell in every order.
+use super::*;
+use guest_images::{COUNT, STORE_BUFFERING};
+use std::str::from_utf8;
+
+/// What a report tells of its units, its calls and its ends: its lines from each of these counts on.
+#[derive(Clone, Copy)]
+struct Told<'a> {
+    units: &'a str,
+    calls: &'a str,
+    ends: &'a str,
+}
+
+fn told(report: &[u8]) -> Result<Told<'_>, Fail> {
+    let text = from_utf8(report)?;
+    let (_, rest) = text.split_once("\nunits ").ok_or("no units")?;
+    let (units, rest) = rest.split_once("\ncalls ").ok_or("no calls")?;
+    let (calls, rest) = rest.split_once("\ntraps ").ok_or("no traps")?;
+    let (_, ends) = rest.split_once("\nends ").ok_or("no ends")?;
+    Ok(Told { units, calls, ends })
+}
+
+/// An access to a word: its core, and its number with what it found.
+#[derive(Clone, Copy)]
+struct Access<'a> {
+    core: &'a str,
+    found: &'a str,
+}
+
+impl<'a> Told<'a> {
+    /// The accesses to a word, in their order.
+    fn accesses(&self, alloc: Global, word: &str) -> Result<Vec<Access<'a>>, AllocError> {
+        let mut accesses = Vec::new(alloc);
+        for line in self.units.lines().skip(1) {
+            if let Some((core, access)) = line.split_once(' ')
+                && let Some((number, found)) = access.split_once(' ')
+                && number == word
+            {
+                accesses.push(Access { core, found })?;
+            }
+        }
+        Ok(accesses)
+    }
+
+    /// How many units a core has.
+    fn units_of(&self, core: &str) -> usize {
+        let mut units: usize = 0;
+        for line in self.units.lines().skip(1) {
+            let own = match line.split_once(' ') {
+                Some((own, _)) => own,
+                None => line,
+            };
+            if own == core {
+                units = units.saturating_add(1);
+            }
+        }
+        units
+    }
+
+    /// Whether a core has one note of bytes that go out, and it ends so.
+    fn has_sink(&self, core: &str, ending: &str) -> bool {
+        let mut sinks: usize = 0;
+        let mut ends = false;
+        for line in self.calls.lines().skip(1) {
+            if let Some((own, note)) = line.split_once(' ')
+                && own == core
+                && note.contains(" sink ")
+            {
+                sinks = sinks.saturating_add(1);
+                ends = note.ends_with(ending);
+            }
+        }
+        sinks == 1 && ends
+    }
+}
+
+/// Whether a core exits with 1, the other with 0 or 1.
+pub(super) fn a_store_was_found(report: &[u8]) -> Result<bool, Fail> {
+    let ends = told(report)?.ends;
+    Ok(
+        ends == "2\n0 exit 0\n1 exit 1\nend\n"
+            || ends == "2\n0 exit 1\n1 exit 0\nend\n"
+            || ends == "2\n0 exit 1\n1 exit 1\nend\n",
+    )
+}
+
+/// How a report ends where both cores exit with 0.
+const BOTH_FINE: &[u8] = b"traps 0\nends 2\n0 exit 0\n1 exit 0\nend\n";
+
+#[test]
+fn one_of_two_cores_echoes_the_whole_input(rt: HostRuntime) -> Result<(), Fail> {
+    let alloc = rt.alloc();
+    let echo = echo_image(alloc, 0)?;
+    let shapes: [&[&str]; 3] = [
+        &["--cores", "2", "--input", "input"],
+        &[
+            "--cores",
+            "2",
+            "--input",
+            "input",
+            "--lane",
+            "1",
+            "--quantum",
+            "1",
+        ],
+        &[
+            "--cores",
+            "2",
+            "--input",
+            "input",
+            "--lane",
+            "2",
+            "--quantum",
+            "3",
+        ],
+    ];
+    for options in shapes {
+        let case = Case {
+            options,
+            input: b"hello\n",
+            head: b"cores 2\nbudget 1048576\nlimit 4294967280\nstack 16\nheap 256\nunits 42\n",
+            ..plain("echo", &echo, 0, b"hello\n", BOTH_FINE)
+        };
+        let around = try_case_at(&rt, alloc, &case, &OpenGate)?;
+        let told = told(around.report.bytes())?;
+        let claims = told.accesses(alloc, "0")?;
+        let claim = claims.first().ok_or("no claim")?;
+        let other = if claim.core == "0" { "1" } else { "0" };
+        assert_eq!(rt; claim.found, "0 00000000", "{options:?}");
+        assert_eq!(rt; told.units_of(claim.core), 24, "{options:?}");
+        assert_eq!(rt; told.units_of(other), 18, "{options:?}");
+        assert!(rt; told.has_sink(claim.core, " 1 go"), "{options:?}");
+    }
+    Ok(())
+}
+
+#[test]
+fn cores_without_input_claim_nothing(rt: HostRuntime) -> Result<(), Fail> {
+    let alloc = rt.alloc();
+    let echo = echo_image(alloc, 0)?;
+    let case = Case {
+        options: &["--cores", "2"],
+        head: b"cores 2\nbudget 1048576\nlimit 4294967280\nstack 16\nheap 256\nunits 36\n",
+        ..plain("echo of nothing", &echo, 0, b"", BOTH_FINE)
+    };
+    let around = try_case_at(&rt, alloc, &case, &OpenGate)?;
+    let claims = told(around.report.bytes())?.accesses(alloc, "0")?;
+    assert_eq!(rt; claims.len(), 2);
+    assert_eq!(rt; claims[0].found, "0 00000000");
+    assert_eq!(rt; claims[1].found, "1 00000000");
+    Ok(())
+}
+
+#[test]
+fn two_stores_are_not_both_too_late(rt: HostRuntime) -> Result<(), Fail> {
+    let alloc = rt.alloc();
+    let image = small_image(alloc, &STORE_BUFFERING)?;
+    for lane in ["1", "2", "64", "4096"] {
+        let options = ["--cores", "2", "--lane", lane];
+        let case = Case {
+            options: &options,
+            ..plain("store buffering", &image, 1, b"", b"end\n")
+        };
+        let around = try_case_at(&rt, alloc, &case, &OpenGate)?;
+        assert!(rt; a_store_was_found(around.report.bytes())?, "lane {lane}");
+    }
+    Ok(())
+}
+
+#[test]
+fn each_access_to_a_shared_word_has_the_next_number(rt: HostRuntime) -> Result<(), Fail> {
+    let alloc = rt.alloc();
+    let count = small_image(alloc, &COUNT)?;
+    let case = Case {
+        options: &["--cores", "8"],
+        head: b"cores 8\nbudget 1048576\nlimit 4294967280\nstack 16\nheap 256\nunits 24048\n",
+        ..plain("count", &count, 0, b"", b"6 exit 0\n7 exit 0\nend\n")
+    };
+    let around = try_case_at(&rt, alloc, &case, &OpenGate)?;
+    let mut next: u32 = 0;
+    for access in told(around.report.bytes())?.accesses(alloc, "1027")? {
+        assert_eq!(rt;
+            access.found,
+            format!(in alloc; "{next} {next:08x}")?.as_str()
+        );
+        next = next.wrapping_add(1);
+    }
+    assert_eq!(rt; next, 8000);
+    Ok(())
+}
+
+#[test]
+fn both_cores_find_a_spent_word(rt: HostRuntime) -> Result<(), Fail> {
+    let alloc = rt.alloc();
+    let count = small_image(alloc, &COUNT)?;
+    let case = Case {
+        options: &["--cores", "2", "--limit", "1"],
+        head: b"cores 2\nbudget 1048576\nlimit 1\nstack 16\nheap 256\nunits 11\n",
+        ..plain(
+            "spent",
+            &count,
+            5,
+            b"",
+            b"calls 0\ntraps 0\nends 2\n0 spent\n1 spent\nend\n",
+        )
+    };
+    let around = try_case_at(&rt, alloc, &case, &OpenGate)?;
+    let accesses = told(around.report.bytes())?.accesses(alloc, "1027")?;
+    assert_eq!(rt; accesses.len(), 3);
+    assert_eq!(rt; accesses[0].found, "0 00000000");
+    assert_eq!(rt; accesses[1].found, "1 00000001");
+    assert_eq!(rt; accesses[2].found, "2 00000001");
+    assert_ne!(rt; accesses[1].core, accesses[2].core);
+    Ok(())
+}
