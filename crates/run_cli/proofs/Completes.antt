@@ -1,5 +1,5 @@
 -- Where words and files are those of a run, a replay or a map, and no count rose, a command ends with its answer or for want of memory.
-use Rattle.std.proofs.Common.{◌≡◌, ℕ, ◌<◌, ◌≤◌, ◌⊎◌, inl, inr, List, ◌∷◌, length, slice_get, codes, Option, None, Some, IsSome, IfSome, Ok, Err, refl, sym, ap, subst, ◌∙◌, arith}
+use Rattle.std.proofs.Common.{◌≡◌, ℕ, ◌<◌, ◌≤◌, ◌⊎◌, inl, inr, List, ◌∷◌, length, slice_get, codes, Option, None, Some, IsSome, IfSome, Ok, refl, sym, ap, subst, ◌∙◌, arith}
 use Rattle.outside.specs.Faults.{Rose}
 use Rattle.outside.specs.Sinks.{SinkSeen}
 use Rattle.elf_image.specs.Layout.{Layout}
@@ -9,13 +9,13 @@ use Rattle.trap_report.specs.Text.{text}
 use Rattle.trap_report.specs.Reading.{Reported, saved_of}
 use Rattle.trap_report.specs.declared.saved.ReportKind.{ReportKind}
 use Rattle.run_cli.specs.Seen.{FilesSeen, Seen}
-use Rattle.run_cli.specs.Asked.{ImageAsked, SetupAsked, RunAsked, ReplayAsked, Asked, Run, Replay, Inspect}
+use Rattle.run_cli.specs.Asked.{ImageAsked, RunAsked, ReplayAsked, Asked, Run, Replay, Inspect}
 use Rattle.run_cli.specs.Words.{Reads, ReadsOffline}
 use Rattle.run_cli.specs.Work.{SaysReport, IsImage, IsSetupOf, IsReplayOf, setup_told}
 use Rattle.run_cli.specs.Lines.{status_of}
 use Rattle.run_cli.specs.Causes.{Caused, IsLong, HasReportFault, HasDifference, HasBadLine, HasBadOrder}
 use Rattle.run_cli.specs.Endings.{Answer, Answers, Ended, Refused, CutReport, OutputCut, ReportCut}
-use Rattle.run_cli.specs.Completeness.{AreToldOf, CanRun, CanReplay, CanMap, NothingRose, Completes, CompletesReplay, CompletesMap}
+use Rattle.run_cli.specs.Completeness.{AreToldOf, NothingRose, Completes, CompletesReplay, CompletesMap}
 use Rattle.run_cli.specs.declared.files.FileKind.TheVariants.{Image as ImageFile, Policy as PolicyFile, Input as InputFile, Report as ReportFile}
 use Rattle.run_cli.specs.declared.ending.Ending.{Ending}
 use Rattle.run_cli.specs.declared.ending.Ending.TheVariants.{Class, Words, Image, Policy, Differs, Report, Long, Memory, Read, Write}

@@ -1,5 +1,5 @@
 -- What the files of a setup say is one thing alone, where it is told, and then no reading of them is refused.
-use Rattle.std.proofs.Common.{◌≡◌, ℕ, ◌<◌, ◌≤◌, inl, inr, List, length, Option, None, Some, IsSome, IfSome, true, false, Result, Ok, Err, refl, sym, ap, subst, ◌∙◌, arith}
+use Rattle.std.proofs.Common.{◌≡◌, ℕ, ◌<◌, ◌≤◌, inl, inr, List, length, Option, None, Some, IsSome, IfSome, true, false, Result, Ok, Err, sym, ap, subst, ◌∙◌, arith}
 use Rattle.outside.specs.Files.{IsTold}
 use Rattle.elf_image.specs.Layout.{Layout}
 use Rattle.elf_image.specs.ImageFault.{image_fault}
@@ -11,8 +11,8 @@ use Rattle.tag_policy.specs.declared.fault.PolicyFault.TheVariants.{Bad}
 use Rattle.machine.specs.Setups.{Setup}
 use Rattle.trap_report.specs.Reading.{Reported, saved_of}
 use Rattle.run_cli.specs.Seen.{FilesSeen}
-use Rattle.run_cli.specs.Asked.{ImageAsked, SetupAsked, ReplayAsked, Asked, Run, Replay, Inspect}
-use Rattle.run_cli.specs.Work.{IsContents, IsImage, IsPolicy, IsInput, SaysPolicy, IsSetupOf, SaysReport, AsksForSetup, AsksForImage, layout_with, setup_of, setup_told}
+use Rattle.run_cli.specs.Asked.{ImageAsked, SetupAsked, Asked, Inspect}
+use Rattle.run_cli.specs.Work.{IsContents, IsImage, IsPolicy, IsInput, SaysPolicy, IsSetupOf, SaysReport, AsksForSetup, AsksForImage, layout_with, setup_of}
 use Rattle.run_cli.specs.Causes.{HasImageFault, HasPolicyFault, IsLong}
 use Rattle.run_cli.specs.Completeness.{IsToldOf, AreToldOf}
 use Rattle.run_cli.specs.declared.files.FileKind.TheVariants.{Image as ImageFile, Policy as PolicyFile, Input as InputFile, Report as ReportFile}

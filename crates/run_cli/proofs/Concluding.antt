@@ -1,9 +1,9 @@
 -- From what was asked for, and what it came to, to the ending of a command.
-use Rattle.std.proofs.Common.{◌≡◌, ℕ, List, ◌∷◌, inl, inr, refl, codes}
+use Rattle.std.proofs.Common.{◌≡◌, ℕ, List, ◌∷◌, inl, inr, codes}
 use Rattle.run_cli.specs.Seen.{Seen}
-use Rattle.run_cli.specs.Asked.{Asked, RunAsked, Run, Replay, Inspect}
+use Rattle.run_cli.specs.Asked.{Asked, Run, Replay, Inspect}
 use Rattle.run_cli.specs.Words.{Reads, ReadsOffline}
-use Rattle.run_cli.specs.Endings.{Ended, Answered, WroteLine}
+use Rattle.run_cli.specs.Endings.{Ended, WroteLine}
 use Rattle.run_cli.specs.Forms.{Came, SaysNothing}
 use Rattle.run_cli.specs.Causes.{IsCalm}
 use Rattle.run_cli.specs.declared.ending.Ending.{Ending}

@@ -1,5 +1,5 @@
 -- A refusal while files are read, seen from before the first of them: what was read before left the files as they were.
-use Rattle.std.proofs.Common.{◌≡◌, ℕ, List, ap, subst, ◌∙◌}
+use Rattle.std.proofs.Common.{◌≡◌, ap, subst, ◌∙◌}
 use Rattle.elf_image.specs.Layout.{Layout}
 use Rattle.tag_policy.specs.Rules.{PolicySeen}
 use Rattle.run_cli.specs.Seen.{FilesSeen}

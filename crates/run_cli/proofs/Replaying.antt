@@ -1,5 +1,5 @@
 -- A replay: where the steps of an order stop, and the refusals of a report.
-use Rattle.std.proofs.Common.{◌≡◌, ℕ, zero, suc, ◌+◌, ◌<◌, ◌≤◌, List, [], ◌∷◌, ◌++◌, length, take, slice_get, lt-ltb, Bool, codes, Option, None, Some, IsSome, Result, Ok, Err, inl, inr, true, false, refl, sym, ap, subst, ◌∙◌, arith, nat_lt, if◌then◌else◌, not, is_some}
+use Rattle.std.proofs.Common.{◌≡◌, ℕ, zero, suc, ◌+◌, ◌<◌, ◌≤◌, List, [], ◌∷◌, ◌++◌, length, take, slice_get, lt-ltb, Bool, codes, None, Some, Result, inl, inr, true, false, refl, sym, ap, subst, ◌∙◌, arith, nat_lt, if◌then◌else◌, not, is_some}
 use Rattle.std.specs.Prelude.{OnOk, IfErr}
 use Rattle.std.proofs.lemmas.List.{take_more, take_all}
 use Rattle.std.proofs.lemmas.Result.{IfErr-weaker, on_ok_weaker}
@@ -7,9 +7,8 @@ use Rattle.std.proofs.lemmas.Option.{slice_get_within, get_or_from_slice_get}
 use Rattle.machine.specs.Setups.{Setup, core_count}
 use Rattle.machine.specs.States.{State, opening}
 use Rattle.machine.specs.Steps.{step}
-use Rattle.machine.specs.Runs.{run, along, IsPlayable, IsPlayableFrom, IsComplete}
-use Rattle.trap_report.specs.Text.{text}
-use Rattle.trap_report.specs.Reading.{Reported, saved_of}
+use Rattle.machine.specs.Runs.{run, IsPlayable, IsPlayableFrom, IsComplete}
+use Rattle.trap_report.specs.Reading.{Reported}
 use Rattle.inline_tracker.specs.Seen.{TrackerSeen, step_answer, is_over}
 use Rattle.inline_tracker.specs.declared.step.StepFault.{StepFault}
 use Rattle.inline_tracker.specs.declared.step.StepFault.TheVariants.{Ended, NoSuchCore}

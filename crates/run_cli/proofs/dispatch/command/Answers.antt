@@ -1,5 +1,5 @@
 use Rattle.run_cli.proofs.Concluding.{offline_ended}
-use Rattle.run_cli.proofs.Completes.{completes, completes_replay, completes_map}
+use Rattle.run_cli.proofs.Completes.{completes}
 use Rattle.run_cli.proofs.dispatch.command.Goals as goal
 
 pub returns-in-Some-clause-ended : goal.returns-in-Some-clause-ended

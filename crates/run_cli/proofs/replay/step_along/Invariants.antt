@@ -1,4 +1,4 @@
-use Rattle.std.proofs.Common.{◌≡◌, ◌≤◌, length, take}
+use Rattle.std.proofs.Common.{◌≡◌, take}
 use Rattle.machine.specs.Runs.{IsPlayable}
 use Rattle.run_cli.proofs.replay.step_along.Given as goal
 
