@@ -5,19 +5,19 @@ use std::str::from_utf8;
 
 /// What a report tells of its units, its calls and its ends: its lines from each of these counts on.
 #[derive(Clone, Copy)]
-struct Told<'a> {
+struct Sections<'a> {
     units: &'a str,
     calls: &'a str,
     ends: &'a str,
 }
 
-fn told(report: &[u8]) -> Result<Told<'_>, Fail> {
+fn sections_of(report: &[u8]) -> Result<Sections<'_>, Fail> {
     let text = from_utf8(report)?;
     let (_, rest) = text.split_once("\nunits ").ok_or("no units")?;
     let (units, rest) = rest.split_once("\ncalls ").ok_or("no calls")?;
     let (calls, rest) = rest.split_once("\ntraps ").ok_or("no traps")?;
     let (_, ends) = rest.split_once("\nends ").ok_or("no ends")?;
-    Ok(Told { units, calls, ends })
+    Ok(Sections { units, calls, ends })
 }
 
 /// An access to a word: its core, and its number with what it found.
@@ -27,7 +27,7 @@ struct Access<'a> {
     found: &'a str,
 }
 
-impl<'a> Told<'a> {
+impl<'a> Sections<'a> {
     /// The accesses to a word, in their order.
     fn accesses(&self, alloc: Global, word: &str) -> Result<Vec<Access<'a>>, AllocError> {
         let mut accesses = Vec::new(alloc);
@@ -76,7 +76,7 @@ impl<'a> Told<'a> {
 
 /// Whether a core exits with 1, the other with 0 or 1.
 pub(super) fn a_store_was_found(report: &[u8]) -> Result<bool, Fail> {
-    let ends = told(report)?.ends;
+    let ends = sections_of(report)?.ends;
     Ok(
         ends == "2\n0 exit 0\n1 exit 1\nend\n"
             || ends == "2\n0 exit 1\n1 exit 0\nend\n"
@@ -122,14 +122,14 @@ fn one_of_two_cores_echoes_the_whole_input(rt: HostRuntime) -> Result<(), Fail> 
             ..plain("echo", &echo, 0, b"hello\n", BOTH_FINE)
         };
         let around = try_case_at(&rt, alloc, &case, &OpenGate)?;
-        let told = told(around.report.bytes())?;
-        let claims = told.accesses(alloc, "0")?;
+        let sections = sections_of(around.report.bytes())?;
+        let claims = sections.accesses(alloc, "0")?;
         let claim = claims.first().ok_or("no claim")?;
         let other = if claim.core == "0" { "1" } else { "0" };
         assert_eq!(rt; claim.found, "0 00000000", "{options:?}");
-        assert_eq!(rt; told.units_of(claim.core), 24, "{options:?}");
-        assert_eq!(rt; told.units_of(other), 18, "{options:?}");
-        assert!(rt; told.has_sink(claim.core, " 1 go"), "{options:?}");
+        assert_eq!(rt; sections.units_of(claim.core), 24, "{options:?}");
+        assert_eq!(rt; sections.units_of(other), 18, "{options:?}");
+        assert!(rt; sections.has_sink(claim.core, " 1 go"), "{options:?}");
     }
     Ok(())
 }
@@ -144,7 +144,7 @@ fn cores_without_input_claim_nothing(rt: HostRuntime) -> Result<(), Fail> {
         ..plain("echo of nothing", &echo, 0, b"", BOTH_FINE)
     };
     let around = try_case_at(&rt, alloc, &case, &OpenGate)?;
-    let claims = told(around.report.bytes())?.accesses(alloc, "0")?;
+    let claims = sections_of(around.report.bytes())?.accesses(alloc, "0")?;
     assert_eq!(rt; claims.len(), 2);
     assert_eq!(rt; claims[0].found, "0 00000000");
     assert_eq!(rt; claims[1].found, "1 00000000");
@@ -178,7 +178,7 @@ fn each_access_to_a_shared_word_has_the_next_number(rt: HostRuntime) -> Result<(
     };
     let around = try_case_at(&rt, alloc, &case, &OpenGate)?;
     let mut next: u32 = 0;
-    for access in told(around.report.bytes())?.accesses(alloc, "1027")? {
+    for access in sections_of(around.report.bytes())?.accesses(alloc, "1027")? {
         assert_eq!(rt;
             access.found,
             format!(in alloc; "{next} {next:08x}")?.as_str()
@@ -205,7 +205,7 @@ fn both_cores_find_a_spent_word(rt: HostRuntime) -> Result<(), Fail> {
         )
     };
     let around = try_case_at(&rt, alloc, &case, &OpenGate)?;
-    let accesses = told(around.report.bytes())?.accesses(alloc, "1027")?;
+    let accesses = sections_of(around.report.bytes())?.accesses(alloc, "1027")?;
     assert_eq!(rt; accesses.len(), 3);
     assert_eq!(rt; accesses[0].found, "0 00000000");
     assert_eq!(rt; accesses[1].found, "1 00000001");
