@@ -79,18 +79,28 @@ fn around(
 /// No reading has this number.
 const NEVER: u64 = 1000;
 
+/// A command each of whose readings fails in turn. Answers how many there are.
+fn try_readings<X: Abort + Threads + Wait + Sync>(
+    rt: &X,
+    alloc: Global,
+    done: &Done<'_>,
+) -> Result<u64, Fail> {
+    let mut readings = 0;
+    for line in done.lines {
+        let mut around = around(alloc, readings, 8192, 8192)?;
+        assert_eq!(rt; around.command(rt, alloc, done.words)?, 74, "{readings}");
+        readings = around.files.calls();
+        assert_eq!(rt; around.out.calls(), 0);
+        assert_eq!(rt; around.report.bytes(), *line);
+    }
+    Ok(readings)
+}
+
 #[test]
 fn each_reading_fails_in_turn(rt: HostRuntime) -> Result<(), Fail> {
     let alloc = rt.alloc();
     for done in all_done() {
-        let mut readings = 0;
-        for line in done.lines {
-            let mut around = around(alloc, readings, 8192, 8192)?;
-            assert_eq!(rt; around.command(&rt, alloc, done.words)?, 74, "{readings}");
-            readings = around.files.calls();
-            assert_eq!(rt; around.out.calls(), 0);
-            assert_eq!(rt; around.report.bytes(), *line);
-        }
+        let readings = try_readings(&rt, alloc, &done)?;
         let mut around = around(alloc, readings, 8192, 8192)?;
         assert_eq!(rt; around.command(&rt, alloc, done.words)?, 0);
         assert_eq!(rt; around.files.calls(), readings);

@@ -91,32 +91,19 @@ const BOTH_FINE: &[u8] = b"traps 0\nends 2\n0 exit 0\n1 exit 0\nend\n";
 fn one_of_two_cores_echoes_the_whole_input(rt: HostRuntime) -> Result<(), Fail> {
     let alloc = rt.alloc();
     let echo = echo_image(alloc, 0)?;
-    let shapes: [&[&str]; 3] = [
-        &["--cores", "2", "--input", "input"],
-        &[
+    for (lane, quantum) in [("64", "64"), ("1", "1"), ("2", "3")] {
+        let options = [
             "--cores",
             "2",
             "--input",
             "input",
             "--lane",
-            "1",
+            lane,
             "--quantum",
-            "1",
-        ],
-        &[
-            "--cores",
-            "2",
-            "--input",
-            "input",
-            "--lane",
-            "2",
-            "--quantum",
-            "3",
-        ],
-    ];
-    for options in shapes {
+            quantum,
+        ];
         let case = Case {
-            options,
+            options: &options,
             input: b"hello\n",
             head: b"cores 2\nbudget 1048576\nlimit 4294967280\nstack 16\nheap 256\nunits 42\n",
             ..plain("echo", &echo, 0, b"hello\n", BOTH_FINE)
