@@ -10,11 +10,11 @@ use crate::measure::{Measure, Shape, read_words};
 use anyhow::{Result, anyhow};
 use elf_image::load;
 use inline_tracker::{Finished, Setup, Tracker, status_of};
-use outside::OpenGate;
 use live_run::{LiveParts, RunShape, assemble, run};
+use outside::OpenGate;
 use std::alloc::Global;
-use std::rt::{Env, Files};
 use std::fs;
+use std::rt::{Env, Files};
 use std::sync::Wait;
 use std::thread::Threads;
 use syscall_drain::Guest;
@@ -24,14 +24,15 @@ use tag_policy::Policy;
 const LIMIT: u32 = 4_294_967_280;
 
 fn read_setup(alloc: Global, bytes: &[u8], measure: &Measure) -> Result<Setup> {
-    let image = load(alloc, bytes, measure.cores, 16, 256).map_err(|_| anyhow!("the image is refused"))?;
+    let Ok(image) = load(alloc, bytes, measure.cores, 16, 256) else {
+        return Err(anyhow!("the image is refused"));
+    };
     let guest = Guest::new(image, Vec::new(alloc));
     Ok(Setup::new(guest, Policy::standard(), measure.budget, LIMIT))
 }
 
 /// By the tracker: round after round, a unit of each core that has not ended.
-fn track(alloc: Global, setup: &Setup) -> Result<Finished>
-{
+fn track(alloc: Global, setup: &Setup) -> Result<Finished> {
     let mut tracker = Tracker::create(alloc, setup).map_err(|_| anyhow!("no memory"))?;
     let cores = setup.guest().image().cores();
     for _ in 0..setup.budget() {
@@ -48,8 +49,7 @@ fn run_in_threads<X: Threads + Wait + Sync>(
     alloc: Global,
     setup: &Setup,
     shape: Shape,
-) -> Result<Finished>
-{
+) -> Result<Finished> {
     let shape = RunShape {
         bound: shape.bound,
         quantum: shape.quantum,
