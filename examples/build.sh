@@ -25,7 +25,7 @@ guest() {
         -Wl,-n,-z,max-page-size=4096,--strip-debug -T guest.ld "$work/start.o" "$1.c" -o "$1.elf"
 }
 
-for name in exit_three fault reserve spin; do small $name $name.elf; done
+for name in exit_three fault private_word reserve shared_lock shared_word spin; do small $name $name.elf; done
 small hi ../crates/run_cli/data/hi.elf
 compile -c start.S -o "$work/start.o"
 for name in locked_sum sort crc32 jump_target leak checks; do guest $name; done
