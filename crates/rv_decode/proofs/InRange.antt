@@ -5,7 +5,7 @@ use Rattle.std.proofs.lemmas.Int.{ints}
 use Rattle.rv_decode.specs.declared.insn.Insn.{Insn}
 use Rattle.rv_decode.specs.declared.insn.Insn.TheVariants.{Lui, Auipc, Jal, Jalr, Branch, Load, Store, Imm, Reg, Fence, Ecall, Ebreak, Lr, Sc, Amo}
 use Rattle.rv_decode.specs.Fields.{inst, sign_extended, imm_i, imm_s, imm_b, imm_u, imm_j}
-use Rattle.rv_decode.specs.Kinds.{shift_funct7}
+use Rattle.rv_decode.specs.Kinds.{imm_functs}
 use Rattle.rv_decode.specs.Rows.{Means, HasOperand}
 use Rattle.rv_decode.specs.Decoded.{decoded}
 use Rattle.rv_decode.specs.Ranges.{Fits, IsWithin, IsEven, IsTwelveBits, IsUpper, IsBranchOffset, IsJumpOffset, IsOperand}
@@ -60,7 +60,7 @@ in_range w (Jalr rd rs1 imm) h m = (omega (arith, m.2), omega (arith, m.3), subs
 in_range w (Branch kind rs1 rs2 imm) h m = (omega (arith, m.2), omega (arith, m.3), subst IsBranchOffset m.4 (imm_b_fits w h))
 in_range w (Load kind rd rs1 imm) h m = (omega (arith, m.2), omega (arith, m.3), subst IsTwelveBits m.4 (imm_i_fits w h))
 in_range w (Store kind rs1 rs2 imm) h m = (omega (arith, m.2), omega (arith, m.3), subst IsTwelveBits m.4 (imm_s_fits w h))
-in_range w (Imm kind rd rs1 imm) h m = (omega (arith, m.2), omega (arith, m.3), operand w (shift_funct7 kind) imm h m.4)
+in_range w (Imm kind rd rs1 imm) h m = (omega (arith, m.2), omega (arith, m.3), operand w (imm_functs kind).funct7 imm h m.4)
 in_range w (Reg kind rd rs1 rs2) h m = (omega (arith, m.3), omega (arith, m.4), omega (arith, m.5))
 in_range w Fence h m = tt
 in_range w Ecall h m = tt

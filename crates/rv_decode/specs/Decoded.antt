@@ -1,124 +1,45 @@
--- The instruction that a word means, computed: opcode first, then funct3, funct7 and funct5, as RISC-V Unprivileged ISA, chapter "RV32/64G Instruction Set Listings", groups its tables.
-use Rattle.std.specs.Prelude.{ℕ, ◌==◌, if◌then◌else◌, ℤ, pos, Option, Some, None}
+-- The instruction that a word means, computed: opcode first, then the operation whose row has the word's funct3, funct7 or funct5, as RISC-V Unprivileged ISA, chapter "RV32/64G Instruction Set Listings", has them.
+use Rattle.std.specs.Prelude.{ℕ, ◌==◌, ◌&&◌, if◌then◌else◌, ℤ, pos, Bool, true, Option, Some, None}
+use Rattle.std.specs.List.{find}
 use Rattle.std.specs.Option.{option_map}
 use Rattle.rv_decode.specs.declared.insn.Insn.{Insn}
 use Rattle.rv_decode.specs.declared.insn.Insn.TheVariants.{Lui, Auipc, Jal, Jalr, Branch, Load, Store, Imm, Reg, Fence, Ecall, Ebreak, Lr, Sc, Amo}
 use Rattle.rv_decode.specs.declared.insn.BranchKind.{BranchKind}
-use Rattle.rv_decode.specs.declared.insn.BranchKind.TheVariants.{Beq, Bne, Blt, Bge, Bltu, Bgeu}
 use Rattle.rv_decode.specs.declared.insn.LoadKind.{LoadKind}
-use Rattle.rv_decode.specs.declared.insn.LoadKind.TheVariants.{Lb, Lh, Lw, Lbu, Lhu}
 use Rattle.rv_decode.specs.declared.insn.StoreKind.{StoreKind}
-use Rattle.rv_decode.specs.declared.insn.StoreKind.TheVariants.{Sb, Sh, Sw}
 use Rattle.rv_decode.specs.declared.insn.ImmKind.{ImmKind}
-use Rattle.rv_decode.specs.declared.insn.ImmKind.TheVariants.{Addi, Slti, Sltiu, Xori, Ori, Andi, Slli, Srli, Srai}
 use Rattle.rv_decode.specs.declared.insn.RegKind.{RegKind}
-use Rattle.rv_decode.specs.declared.insn.RegKind.TheVariants.{Add, Sub, Sll, Slt, Sltu, Xor, Srl, Sra, Or, And, Mul, Mulh, Mulhsu, Mulhu, Div, Divu, Rem, Remu}
 use Rattle.rv_decode.specs.declared.insn.AmoKind.{AmoKind}
-use Rattle.rv_decode.specs.declared.insn.AmoKind.TheVariants.{Add as AmoAdd, Swap as AmoSwap, Xor as AmoXor, Or as AmoOr, And as AmoAnd, Min as AmoMin, Max as AmoMax, Minu as AmoMinu, Maxu as AmoMaxu}
 use Rattle.rv_decode.specs.Fields.{opcode, rd_of, funct3, rs1_of, rs2_of, funct7, funct5, imm_i, imm_s, imm_b, imm_u, imm_j}
-use Rattle.rv_decode.specs.Kinds.{op_lui, op_auipc, op_jal, op_jalr, op_branch, op_load, op_store, op_imm, op_reg, op_misc_mem, op_amo, op_system, shift_funct7, width_w, funct5_lr, funct5_sc}
+use Rattle.rv_decode.specs.declared.kinds.TheConstants.{LUI, AUIPC, JAL, JALR, BRANCH, LOAD, STORE, OP_IMM, OP, MISC_MEM, AMO, SYSTEM, ECALL, EBREAK, WIDTH_W, LR, SC}
+use Rattle.rv_decode.specs.Kinds.{branch_kinds, branch_funct3, load_kinds, load_funct3, store_kinds, store_funct3, imm_kinds, imm_functs, reg_kinds, reg_functs, amo_kinds, amo_funct5}
+
+-- ---- the operation of a kind whose row has these functs; no two rows of a kind have the same
 
 abbrev pub branch_kind : ℕ → Option BranchKind
-branch_kind f =
-    if f == 0b000 then Some Beq else
-    if f == 0b001 then Some Bne else
-    if f == 0b100 then Some Blt else
-    if f == 0b101 then Some Bge else
-    if f == 0b110 then Some Bltu else
-    if f == 0b111 then Some Bgeu else
-    None
+branch_kind f = find (λ kind. f == branch_funct3 kind) branch_kinds
 
 abbrev pub load_kind : ℕ → Option LoadKind
-load_kind f =
-    if f == 0b000 then Some Lb else
-    if f == 0b001 then Some Lh else
-    if f == 0b010 then Some Lw else
-    if f == 0b100 then Some Lbu else
-    if f == 0b101 then Some Lhu else
-    None
+load_kind f = find (λ kind. f == load_funct3 kind) load_kinds
 
 abbrev pub store_kind : ℕ → Option StoreKind
-store_kind f =
-    if f == 0b000 then Some Sb else
-    if f == 0b001 then Some Sh else
-    if f == 0b010 then Some Sw else
-    None
+store_kind f = find (λ kind. f == store_funct3 kind) store_kinds
 
--- a shift to the left, and one to the right, by funct7
-abbrev pub left_kind : ℕ → Option ImmKind
-left_kind f = if f == 0b0000000 then Some Slli else None
+-- whether an operation can have this funct7: its own, or any where it has none
+abbrev pub allows : Option ℕ → ℕ → Bool
+allows None f7 = true
+allows (Some n) f7 = f7 == n
 
-abbrev pub right_kind : ℕ → Option ImmKind
-right_kind f =
-    if f == 0b0000000 then Some Srli else
-    if f == 0b0100000 then Some Srai else
-    None
-
--- by funct3, then funct7
 abbrev pub imm_kind : ℕ → ℕ → Option ImmKind
-imm_kind f g =
-    if f == 0b000 then Some Addi else
-    if f == 0b001 then left_kind g else
-    if f == 0b010 then Some Slti else
-    if f == 0b011 then Some Sltiu else
-    if f == 0b100 then Some Xori else
-    if f == 0b101 then right_kind g else
-    if f == 0b110 then Some Ori else
-    if f == 0b111 then Some Andi else
-    None
+imm_kind f7 f3 = find (λ kind. f3 == (imm_functs kind).funct3 && allows (imm_functs kind).funct7 f7) imm_kinds
 
--- an operation of funct7 0000000, 0100000 and 0000001, by funct3
-abbrev pub base_kind : ℕ → Option RegKind
-base_kind f =
-    if f == 0b000 then Some Add else
-    if f == 0b001 then Some Sll else
-    if f == 0b010 then Some Slt else
-    if f == 0b011 then Some Sltu else
-    if f == 0b100 then Some Xor else
-    if f == 0b101 then Some Srl else
-    if f == 0b110 then Some Or else
-    if f == 0b111 then Some And else
-    None
-
-abbrev pub alternate_kind : ℕ → Option RegKind
-alternate_kind f =
-    if f == 0b000 then Some Sub else
-    if f == 0b101 then Some Sra else
-    None
-
-abbrev pub multiply_kind : ℕ → Option RegKind
-multiply_kind f =
-    if f == 0b000 then Some Mul else
-    if f == 0b001 then Some Mulh else
-    if f == 0b010 then Some Mulhsu else
-    if f == 0b011 then Some Mulhu else
-    if f == 0b100 then Some Div else
-    if f == 0b101 then Some Divu else
-    if f == 0b110 then Some Rem else
-    if f == 0b111 then Some Remu else
-    None
-
--- by funct3, then funct7
 abbrev pub reg_kind : ℕ → ℕ → Option RegKind
-reg_kind f g =
-    if g == 0b0000000 then base_kind f else
-    if g == 0b0100000 then alternate_kind f else
-    if g == 0b0000001 then multiply_kind f else
-    None
+reg_kind f7 f3 = find (λ kind. f3 == (reg_functs kind).funct3 && f7 == (reg_functs kind).funct7) reg_kinds
 
--- by funct5
 abbrev pub amo_kind : ℕ → Option AmoKind
-amo_kind f =
-    if f == 0b00000 then Some AmoAdd else
-    if f == 0b00001 then Some AmoSwap else
-    if f == 0b00100 then Some AmoXor else
-    if f == 0b01000 then Some AmoOr else
-    if f == 0b01100 then Some AmoAnd else
-    if f == 0b10000 then Some AmoMin else
-    if f == 0b10100 then Some AmoMax else
-    if f == 0b11000 then Some AmoMinu else
-    if f == 0b11100 then Some AmoMaxu else
-    None
+amo_kind f = find (λ kind. f == amo_funct5 kind) amo_kinds
+
+-- ---- by opcode
 
 -- the immediate of an operation: a shift, which has a funct7, has the count of bits in the place of rs2
 abbrev pub operand_of : ℕ → Option ℕ → ℤ
@@ -138,10 +59,10 @@ abbrev pub decoded_store : ℕ → Option Insn
 decoded_store w = option_map (λ kind. Store kind (rs1_of w) (rs2_of w) (imm_s w)) (store_kind (funct3 w))
 
 abbrev pub decoded_imm : ℕ → Option Insn
-decoded_imm w = option_map (λ kind. Imm kind (rd_of w) (rs1_of w) (operand_of w (shift_funct7 kind))) (imm_kind (funct3 w) (funct7 w))
+decoded_imm w = option_map (λ kind. Imm kind (rd_of w) (rs1_of w) (operand_of w (imm_functs kind).funct7)) (imm_kind (funct7 w) (funct3 w))
 
 abbrev pub decoded_reg : ℕ → Option Insn
-decoded_reg w = option_map (λ kind. Reg kind (rd_of w) (rs1_of w) (rs2_of w)) (reg_kind (funct3 w) (funct7 w))
+decoded_reg w = option_map (λ kind. Reg kind (rd_of w) (rs1_of w) (rs2_of w)) (reg_kind (funct7 w) (funct3 w))
 
 abbrev pub decoded_fence : ℕ → Option Insn
 decoded_fence w = if funct3 w == 0b000 then Some Fence else None
@@ -154,32 +75,32 @@ decoded_amo w = option_map (λ kind. Amo kind (rd_of w) (rs1_of w) (rs2_of w)) (
 
 abbrev pub decoded_word_atomic : ℕ → Option Insn
 decoded_word_atomic w =
-    if funct5 w == funct5_lr then decoded_lr w else
-    if funct5 w == funct5_sc then Some (Sc (rd_of w) (rs1_of w) (rs2_of w)) else
+    if funct5 w == LR then decoded_lr w else
+    if funct5 w == SC then Some (Sc (rd_of w) (rs1_of w) (rs2_of w)) else
     decoded_amo w
 
 abbrev pub decoded_atomic : ℕ → Option Insn
-decoded_atomic w = if funct3 w == width_w then decoded_word_atomic w else None
+decoded_atomic w = if funct3 w == WIDTH_W then decoded_word_atomic w else None
 
 abbrev pub decoded_system : ℕ → Option Insn
 decoded_system w =
-    if w == 0x00000073 then Some Ecall else
-    if w == 0x00100073 then Some Ebreak else
+    if w == ECALL then Some Ecall else
+    if w == EBREAK then Some Ebreak else
     None
 
 -- the instruction that the word means, if there is one
 abbrev pub decoded : ℕ → Option Insn
 decoded w =
-    if opcode w == op_lui then Some (Lui (rd_of w) (imm_u w)) else
-    if opcode w == op_auipc then Some (Auipc (rd_of w) (imm_u w)) else
-    if opcode w == op_jal then Some (Jal (rd_of w) (imm_j w)) else
-    if opcode w == op_jalr then decoded_jalr w else
-    if opcode w == op_branch then decoded_branch w else
-    if opcode w == op_load then decoded_load w else
-    if opcode w == op_store then decoded_store w else
-    if opcode w == op_imm then decoded_imm w else
-    if opcode w == op_reg then decoded_reg w else
-    if opcode w == op_misc_mem then decoded_fence w else
-    if opcode w == op_amo then decoded_atomic w else
-    if opcode w == op_system then decoded_system w else
+    if opcode w == LUI then Some (Lui (rd_of w) (imm_u w)) else
+    if opcode w == AUIPC then Some (Auipc (rd_of w) (imm_u w)) else
+    if opcode w == JAL then Some (Jal (rd_of w) (imm_j w)) else
+    if opcode w == JALR then decoded_jalr w else
+    if opcode w == BRANCH then decoded_branch w else
+    if opcode w == LOAD then decoded_load w else
+    if opcode w == STORE then decoded_store w else
+    if opcode w == OP_IMM then decoded_imm w else
+    if opcode w == OP then decoded_reg w else
+    if opcode w == MISC_MEM then decoded_fence w else
+    if opcode w == AMO then decoded_atomic w else
+    if opcode w == SYSTEM then decoded_system w else
     None

@@ -2,7 +2,7 @@
 use Rattle.std.specs.Prelude.{◌≡◌, ℕ, ◌%◌, ◌^◌, ◌<◌, ℤ, pos, neg_ℤ, ◌≤ℤ◌, int_rem, Option, Some, None}
 use Rattle.rv_decode.specs.declared.insn.Insn.{Insn}
 use Rattle.rv_decode.specs.declared.insn.Insn.TheVariants.{Lui, Auipc, Jal, Jalr, Branch, Load, Store, Imm, Reg, Fence, Ecall, Ebreak, Lr, Sc, Amo}
-use Rattle.rv_decode.specs.Kinds.{shift_funct7}
+use Rattle.rv_decode.specs.Kinds.{imm_functs}
 
 abbrev pub IsRegister : ℕ → Type 0
 IsRegister r = r < 32
@@ -40,7 +40,7 @@ Fits (Jalr rd rs1 imm) = IsRegister rd × IsRegister rs1 × IsTwelveBits imm
 Fits (Branch _ rs1 rs2 imm) = IsRegister rs1 × IsRegister rs2 × IsBranchOffset imm
 Fits (Load _ rd rs1 imm) = IsRegister rd × IsRegister rs1 × IsTwelveBits imm
 Fits (Store _ rs1 rs2 imm) = IsRegister rs1 × IsRegister rs2 × IsTwelveBits imm
-Fits (Imm kind rd rs1 imm) = IsRegister rd × IsRegister rs1 × IsOperand (shift_funct7 kind) imm
+Fits (Imm kind rd rs1 imm) = IsRegister rd × IsRegister rs1 × IsOperand (imm_functs kind).funct7 imm
 Fits (Reg _ rd rs1 rs2) = IsRegister rd × IsRegister rs1 × IsRegister rs2
 Fits Fence = Unit {0}
 Fits Ecall = Unit {0}

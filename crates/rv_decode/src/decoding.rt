@@ -2,7 +2,7 @@
 
 ghost use Rattle.std.specs.Prelude.{◌≡◌, ◌↔◌, Some, IfSome, IsNone};
 ghost use Rattle.rv_decode.specs.declared.insn.Insn.{Insn};
-ghost use Rattle.rv_decode.specs.Kinds.{shift_funct7};
+ghost use Rattle.rv_decode.specs.Kinds.{imm_functs};
 ghost use Rattle.rv_decode.specs.Rows.{Means};
 ghost use Rattle.rv_decode.specs.Ranges.{Fits};
 ghost use Rattle.rv_decode.specs.Decoded.{decoded, operand_of, decoded_jalr, decoded_branch, decoded_load, decoded_store, decoded_imm, decoded_reg, decoded_fence, decoded_lr, decoded_amo, decoded_word_atomic, decoded_atomic, decoded_system};
@@ -13,7 +13,7 @@ use crate::fields::{
 use crate::insn::{ImmKind, Insn};
 use crate::kinds::{
     AMO, AUIPC, BRANCH, EBREAK, ECALL, JAL, JALR, LOAD, LR, LUI, MISC_MEM, OP, OP_IMM, SC, STORE,
-    SYSTEM, WIDTH_W, amo_kind, branch_kind, imm_kind, load_kind, reg_kind, store_kind,
+    SYSTEM, WIDTH_W, amo_kind, branch_kind, imm_functs, imm_kind, load_kind, reg_kind, store_kind,
 };
 
 /// The instruction that the word means: RISC-V Unprivileged ISA, RV32I 2.1, M 2.0 and A 2.1.
@@ -108,18 +108,18 @@ fn decode_store(word: u32) -> Option<Insn>
 
 /// The immediate of the operation, which for a shift is the count of bits in the place of rs2.
 fn operand(word: u32, kind: ImmKind) -> i32
-    ensures { result ≡ operand_of word (shift_funct7 kind) }
+    ensures { result ≡ operand_of word (imm_functs kind).funct7 }
 {
-    match kind {
-        ImmKind::Slli | ImmKind::Srli | ImmKind::Srai => i32::from(rs2(word)),
-        _ => imm_i(word),
+    match imm_functs(kind).funct7 {
+        Some(_) => i32::from(rs2(word)),
+        None => imm_i(word),
     }
 }
 
 fn decode_imm(word: u32) -> Option<Insn>
     ensures { result ≡ decoded_imm word }
 {
-    let kind = imm_kind(funct3(word), funct7(word))?;
+    let kind = imm_kind(funct7(word), funct3(word))?;
     Some(Insn::Imm {
         kind,
         rd: rd(word),
@@ -131,7 +131,7 @@ fn decode_imm(word: u32) -> Option<Insn>
 fn decode_reg(word: u32) -> Option<Insn>
     ensures { result ≡ decoded_reg word }
 {
-    let kind = reg_kind(funct3(word), funct7(word))?;
+    let kind = reg_kind(funct7(word), funct3(word))?;
     Some(Insn::Reg {
         kind,
         rd: rd(word),

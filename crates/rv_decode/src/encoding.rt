@@ -2,7 +2,7 @@
 
 ghost use Rattle.std.specs.Prelude.{◌≡◌, ◌<◌, ◌+◌, ◌*◌, ◌^◌, ◌%◌, pos, ◌+ℤ◌, ◌≤ℤ◌, ◌<ℤ◌, Some};
 ghost use Rattle.rv_decode.specs.Fields.{opcode as opcode_of, rd_of, funct3 as funct3_of, rs1_of, rs2_of, funct7 as funct7_of, funct5 as funct5_of, inst, sign_extended, imm_i, imm_s, imm_b, imm_u, imm_j};
-ghost use Rattle.rv_decode.specs.Kinds.{shift_funct7, op_jal, op_branch, op_store, op_amo, width_w};
+ghost use Rattle.rv_decode.specs.Kinds.{imm_functs};
 ghost use Rattle.rv_decode.specs.Ranges.{Fits, IsRegister, IsUpper, IsTwelveBits, IsBranchOffset, IsJumpOffset, IsOperand, IsEven};
 ghost use Rattle.rv_decode.specs.Rows.{Means};
 ghost use Rattle.rv_decode.specs.Decoded.{decoded};
@@ -10,8 +10,8 @@ ghost use Rattle.rv_decode.specs.FreeBits.{HasPlainBits};
 
 use crate::insn::{ImmKind, Insn};
 use crate::kinds::{
-    ALTERNATE, AMO, AUIPC, BASE, BRANCH, EBREAK, ECALL, JAL, JALR, LOAD, LR, LUI, OP, OP_IMM, SC,
-    STORE, WIDTH_W, amo_funct5, branch_funct3, imm_funct3, load_funct3, reg_funct3, reg_funct7,
+    AMO, AUIPC, BRANCH, EBREAK, ECALL, ImmFuncts, JAL, JALR, LOAD, LR, LUI, OP, OP_IMM, RegFuncts,
+    SC, STORE, WIDTH_W, amo_funct5, branch_funct3, imm_functs, load_funct3, reg_functs,
     store_funct3,
 };
 
@@ -55,7 +55,8 @@ fn encode_by_format(insn: Insn) -> u32
         } => s_word(store_funct3(kind), rs1, rs2, imm),
         Insn::Imm { kind, rd, rs1, imm } => imm_word(kind, rd, rs1, imm),
         Insn::Reg { kind, rd, rs1, rs2 } => {
-            r_word(OP, reg_funct3(kind), reg_funct7(kind), rd, rs1, rs2)
+            let RegFuncts { funct7, funct3 } = reg_functs(kind);
+            r_word(OP, funct3, funct7, rd, rs1, rs2)
         }
         Insn::Fence => FENCE,
         Insn::Ecall => ECALL,
@@ -70,15 +71,13 @@ fn encode_by_format(insn: Insn) -> u32
 fn imm_word(kind: ImmKind, rd: u8, rs1: u8, imm: i32) -> u32
     requires first { IsRegister rd }
     requires second { IsRegister rs1 }
-    requires operand { IsOperand (shift_funct7 kind) imm }
+    requires operand { IsOperand (imm_functs kind).funct7 imm }
     ensures { Means result (Insn.Imm kind rd rs1 imm) }
 {
-    match kind {
-        ImmKind::Slli | ImmKind::Srli => {
-            r_word(OP_IMM, imm_funct3(kind), BASE, rd, rs1, imm as u8)
-        }
-        ImmKind::Srai => r_word(OP_IMM, imm_funct3(kind), ALTERNATE, rd, rs1, imm as u8),
-        _ => i_word(OP_IMM, imm_funct3(kind), rd, rs1, imm),
+    let ImmFuncts { funct7, funct3 } = imm_functs(kind);
+    match funct7 {
+        Some(funct7) => r_word(OP_IMM, funct3, funct7, rd, rs1, imm as u8),
+        None => i_word(OP_IMM, funct3, rd, rs1, imm),
     }
 }
 
@@ -88,8 +87,8 @@ fn atomic_word(funct5: u32, rd: u8, rs1: u8, rs2: u8) -> u32
     requires first { IsRegister rd }
     requires second { IsRegister rs1 }
     requires third { IsRegister rs2 }
-    ensures op { opcode_of result ≡ op_amo }
-    ensures width { funct3_of result ≡ width_w }
+    ensures op { opcode_of result ≡ AMO }
+    ensures width { funct3_of result ≡ WIDTH_W }
     ensures function { funct5_of result ≡ funct5 }
     ensures rd { rd_of result ≡ rd }
     ensures rs1 { rs1_of result ≡ rs1 }
@@ -145,7 +144,7 @@ fn s_word(funct3: u32, rs1: u8, rs2: u8, imm: i32) -> u32
     requires first { IsRegister rs1 }
     requires second { IsRegister rs2 }
     requires immediate { IsTwelveBits imm }
-    ensures op { opcode_of result ≡ op_store }
+    ensures op { opcode_of result ≡ STORE }
     ensures width { funct3_of result ≡ funct3 }
     ensures rs1 { rs1_of result ≡ rs1 }
     ensures rs2 { rs2_of result ≡ rs2 }
@@ -167,7 +166,7 @@ fn b_word(funct3: u32, rs1: u8, rs2: u8, imm: i32) -> u32
     requires first { IsRegister rs1 }
     requires second { IsRegister rs2 }
     requires immediate { IsBranchOffset imm }
-    ensures op { opcode_of result ≡ op_branch }
+    ensures op { opcode_of result ≡ BRANCH }
     ensures width { funct3_of result ≡ funct3 }
     ensures rs1 { rs1_of result ≡ rs1 }
     ensures rs2 { rs2_of result ≡ rs2 }
@@ -193,7 +192,7 @@ fn u_word(opcode: u32, rd: u8, imm: u32) -> u32
 fn j_word(rd: u8, imm: i32) -> u32
     requires first { IsRegister rd }
     requires immediate { IsJumpOffset imm }
-    ensures op { opcode_of result ≡ op_jal }
+    ensures op { opcode_of result ≡ JAL }
     ensures rd { rd_of result ≡ rd }
     ensures immediate { imm_j result ≡ imm }
 {

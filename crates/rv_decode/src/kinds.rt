@@ -1,8 +1,11 @@
 //! The opcodes, and the funct3, funct7 and funct5 of each operation.
+//!
+//! The definitions read the numbers that have a name here. Each kind of operation has its rows twice,
+//! in one order: by the functs and by the operation.
 
-ghost use Rattle.std.specs.Prelude.{◌≡◌, ◌<◌};
-ghost use Rattle.rv_decode.specs.Kinds.{branch_funct3, load_funct3, store_funct3, imm_funct3, reg_funct3, reg_funct7, amo_funct5};
-ghost use Rattle.rv_decode.specs.Decoded.{branch_kind, load_kind, store_kind, left_kind, right_kind, imm_kind, base_kind, alternate_kind, multiply_kind, reg_kind, amo_kind};
+ghost use Rattle.std.specs.Prelude.{◌≡◌, ◌<◌, IfSome};
+ghost use Rattle.rv_decode.specs.Kinds.{branch_funct3, load_funct3, store_funct3, imm_functs, reg_functs, amo_funct5};
+ghost use Rattle.rv_decode.specs.Decoded.{branch_kind, load_kind, store_kind, imm_kind, reg_kind, amo_kind};
 
 use crate::insn::{AmoKind, BranchKind, ImmKind, LoadKind, RegKind, StoreKind};
 
@@ -34,13 +37,6 @@ pub(crate) const SYSTEM: u32 = 0b1110011;
 pub(crate) const ECALL: u32 = 0x00000073;
 
 pub(crate) const EBREAK: u32 = 0x00100073;
-
-/// The funct7 of the base operations, of their alternates and of multiplication and division.
-pub(crate) const BASE: u32 = 0b0000000;
-
-pub(crate) const ALTERNATE: u32 = 0b0100000;
-
-pub(crate) const MULTIPLY: u32 = 0b0000001;
 
 /// The funct3 of an atomic instruction on a word of four bytes.
 pub(crate) const WIDTH_W: u32 = 0b010;
@@ -126,153 +122,110 @@ pub(crate) fn store_funct3(kind: StoreKind) -> u32
     }
 }
 
-/// The shift to the left of a funct7.
-fn left_kind(funct7: u32) -> Option<ImmKind>
-    ensures { result ≡ left_kind funct7 }
+/// The fields that tell an operation on a register and an immediate from the others.
+///
+/// Only a shift has a funct7; the others have bits of their immediate in its place.
+#[derive(Clone, Copy)]
+pub(crate) struct ImmFuncts {
+    pub(crate) funct7: Option<u32>,
+    pub(crate) funct3: u32,
+}
+
+pub(crate) fn imm_kind(funct7: u32, funct3: u32) -> Option<ImmKind>
+    ensures { result ≡ imm_kind funct7 funct3 }
 {
-    match funct7 {
-        BASE => Some(ImmKind::Slli),
+    match (funct7, funct3) {
+        (_, 0b000) => Some(ImmKind::Addi),
+        (_, 0b010) => Some(ImmKind::Slti),
+        (_, 0b011) => Some(ImmKind::Sltiu),
+        (_, 0b100) => Some(ImmKind::Xori),
+        (_, 0b110) => Some(ImmKind::Ori),
+        (_, 0b111) => Some(ImmKind::Andi),
+        (0b0000000, 0b001) => Some(ImmKind::Slli),
+        (0b0000000, 0b101) => Some(ImmKind::Srli),
+        (0b0100000, 0b101) => Some(ImmKind::Srai),
         _ => None,
     }
 }
 
-/// The shift to the right of a funct7.
-fn right_kind(funct7: u32) -> Option<ImmKind>
-    ensures { result ≡ right_kind funct7 }
+pub(crate) fn imm_functs(kind: ImmKind) -> ImmFuncts
+    ensures value { result ≡ imm_functs kind }
+    ensures funct3 { result.funct3 < 8 }
+    ensures funct7 { IfSome result.funct7 (λ n. n < 128) }
 {
-    match funct7 {
-        BASE => Some(ImmKind::Srli),
-        ALTERNATE => Some(ImmKind::Srai),
+    let (funct7, funct3) = match kind {
+        ImmKind::Addi => (None, 0b000),
+        ImmKind::Slti => (None, 0b010),
+        ImmKind::Sltiu => (None, 0b011),
+        ImmKind::Xori => (None, 0b100),
+        ImmKind::Ori => (None, 0b110),
+        ImmKind::Andi => (None, 0b111),
+        ImmKind::Slli => (Some(0b0000000), 0b001),
+        ImmKind::Srli => (Some(0b0000000), 0b101),
+        ImmKind::Srai => (Some(0b0100000), 0b101),
+    };
+    ImmFuncts { funct7, funct3 }
+}
+
+/// The fields that tell an operation on two registers from the others.
+#[derive(Clone, Copy)]
+pub(crate) struct RegFuncts {
+    pub(crate) funct7: u32,
+    pub(crate) funct3: u32,
+}
+
+pub(crate) fn reg_kind(funct7: u32, funct3: u32) -> Option<RegKind>
+    ensures { result ≡ reg_kind funct7 funct3 }
+{
+    match (funct7, funct3) {
+        (0b0000000, 0b000) => Some(RegKind::Add),
+        (0b0100000, 0b000) => Some(RegKind::Sub),
+        (0b0000000, 0b001) => Some(RegKind::Sll),
+        (0b0000000, 0b010) => Some(RegKind::Slt),
+        (0b0000000, 0b011) => Some(RegKind::Sltu),
+        (0b0000000, 0b100) => Some(RegKind::Xor),
+        (0b0000000, 0b101) => Some(RegKind::Srl),
+        (0b0100000, 0b101) => Some(RegKind::Sra),
+        (0b0000000, 0b110) => Some(RegKind::Or),
+        (0b0000000, 0b111) => Some(RegKind::And),
+        (0b0000001, 0b000) => Some(RegKind::Mul),
+        (0b0000001, 0b001) => Some(RegKind::Mulh),
+        (0b0000001, 0b010) => Some(RegKind::Mulhsu),
+        (0b0000001, 0b011) => Some(RegKind::Mulhu),
+        (0b0000001, 0b100) => Some(RegKind::Div),
+        (0b0000001, 0b101) => Some(RegKind::Divu),
+        (0b0000001, 0b110) => Some(RegKind::Rem),
+        (0b0000001, 0b111) => Some(RegKind::Remu),
         _ => None,
     }
 }
 
-/// The operation on a register and an immediate; only a shift has a funct7.
-pub(crate) fn imm_kind(funct3: u32, funct7: u32) -> Option<ImmKind>
-    ensures { result ≡ imm_kind funct3 funct7 }
+pub(crate) fn reg_functs(kind: RegKind) -> RegFuncts
+    ensures value { result ≡ reg_functs kind }
+    ensures funct3 { result.funct3 < 8 }
+    ensures funct7 { result.funct7 < 128 }
 {
-    match funct3 {
-        0b000 => Some(ImmKind::Addi),
-        0b001 => left_kind(funct7),
-        0b010 => Some(ImmKind::Slti),
-        0b011 => Some(ImmKind::Sltiu),
-        0b100 => Some(ImmKind::Xori),
-        0b101 => right_kind(funct7),
-        0b110 => Some(ImmKind::Ori),
-        0b111 => Some(ImmKind::Andi),
-        _ => None,
-    }
-}
-
-pub(crate) fn imm_funct3(kind: ImmKind) -> u32
-    ensures value { result ≡ imm_funct3 kind }
-    ensures small { result < 8 }
-{
-    match kind {
-        ImmKind::Addi => 0b000,
-        ImmKind::Slli => 0b001,
-        ImmKind::Slti => 0b010,
-        ImmKind::Sltiu => 0b011,
-        ImmKind::Xori => 0b100,
-        ImmKind::Srli | ImmKind::Srai => 0b101,
-        ImmKind::Ori => 0b110,
-        ImmKind::Andi => 0b111,
-    }
-}
-
-fn base_kind(funct3: u32) -> Option<RegKind>
-    ensures { result ≡ base_kind funct3 }
-{
-    match funct3 {
-        0b000 => Some(RegKind::Add),
-        0b001 => Some(RegKind::Sll),
-        0b010 => Some(RegKind::Slt),
-        0b011 => Some(RegKind::Sltu),
-        0b100 => Some(RegKind::Xor),
-        0b101 => Some(RegKind::Srl),
-        0b110 => Some(RegKind::Or),
-        0b111 => Some(RegKind::And),
-        _ => None,
-    }
-}
-
-fn alternate_kind(funct3: u32) -> Option<RegKind>
-    ensures { result ≡ alternate_kind funct3 }
-{
-    match funct3 {
-        0b000 => Some(RegKind::Sub),
-        0b101 => Some(RegKind::Sra),
-        _ => None,
-    }
-}
-
-fn multiply_kind(funct3: u32) -> Option<RegKind>
-    ensures { result ≡ multiply_kind funct3 }
-{
-    match funct3 {
-        0b000 => Some(RegKind::Mul),
-        0b001 => Some(RegKind::Mulh),
-        0b010 => Some(RegKind::Mulhsu),
-        0b011 => Some(RegKind::Mulhu),
-        0b100 => Some(RegKind::Div),
-        0b101 => Some(RegKind::Divu),
-        0b110 => Some(RegKind::Rem),
-        0b111 => Some(RegKind::Remu),
-        _ => None,
-    }
-}
-
-/// The operation on two registers.
-pub(crate) fn reg_kind(funct3: u32, funct7: u32) -> Option<RegKind>
-    ensures { result ≡ reg_kind funct3 funct7 }
-{
-    match funct7 {
-        BASE => base_kind(funct3),
-        ALTERNATE => alternate_kind(funct3),
-        MULTIPLY => multiply_kind(funct3),
-        _ => None,
-    }
-}
-
-pub(crate) fn reg_funct3(kind: RegKind) -> u32
-    ensures value { result ≡ reg_funct3 kind }
-    ensures small { result < 8 }
-{
-    match kind {
-        RegKind::Add | RegKind::Sub | RegKind::Mul => 0b000,
-        RegKind::Sll | RegKind::Mulh => 0b001,
-        RegKind::Slt | RegKind::Mulhsu => 0b010,
-        RegKind::Sltu | RegKind::Mulhu => 0b011,
-        RegKind::Xor | RegKind::Div => 0b100,
-        RegKind::Srl | RegKind::Sra | RegKind::Divu => 0b101,
-        RegKind::Or | RegKind::Rem => 0b110,
-        RegKind::And | RegKind::Remu => 0b111,
-    }
-}
-
-pub(crate) fn reg_funct7(kind: RegKind) -> u32
-    ensures value { result ≡ reg_funct7 kind }
-    ensures small { result < 128 }
-{
-    match kind {
-        RegKind::Add
-        | RegKind::Sll
-        | RegKind::Slt
-        | RegKind::Sltu
-        | RegKind::Xor
-        | RegKind::Srl
-        | RegKind::Or
-        | RegKind::And => BASE,
-        RegKind::Sub | RegKind::Sra => ALTERNATE,
-        RegKind::Mul
-        | RegKind::Mulh
-        | RegKind::Mulhsu
-        | RegKind::Mulhu
-        | RegKind::Div
-        | RegKind::Divu
-        | RegKind::Rem
-        | RegKind::Remu => MULTIPLY,
-    }
+    let (funct7, funct3) = match kind {
+        RegKind::Add => (0b0000000, 0b000),
+        RegKind::Sub => (0b0100000, 0b000),
+        RegKind::Sll => (0b0000000, 0b001),
+        RegKind::Slt => (0b0000000, 0b010),
+        RegKind::Sltu => (0b0000000, 0b011),
+        RegKind::Xor => (0b0000000, 0b100),
+        RegKind::Srl => (0b0000000, 0b101),
+        RegKind::Sra => (0b0100000, 0b101),
+        RegKind::Or => (0b0000000, 0b110),
+        RegKind::And => (0b0000000, 0b111),
+        RegKind::Mul => (0b0000001, 0b000),
+        RegKind::Mulh => (0b0000001, 0b001),
+        RegKind::Mulhsu => (0b0000001, 0b010),
+        RegKind::Mulhu => (0b0000001, 0b011),
+        RegKind::Div => (0b0000001, 0b100),
+        RegKind::Divu => (0b0000001, 0b101),
+        RegKind::Rem => (0b0000001, 0b110),
+        RegKind::Remu => (0b0000001, 0b111),
+    };
+    RegFuncts { funct7, funct3 }
 }
 
 pub(crate) fn amo_kind(funct5: u32) -> Option<AmoKind>

@@ -1,10 +1,11 @@
 //! Whether an instruction's registers and immediate can be written into a word.
 
 ghost use Rattle.std.specs.Prelude.{◌≡◌, ◌<◌, ◌↔◌, IsTrue, pos};
-ghost use Rattle.rv_decode.specs.Kinds.{shift_funct7};
+ghost use Rattle.rv_decode.specs.Kinds.{imm_functs};
 ghost use Rattle.rv_decode.specs.Ranges.{Fits, IsRegister, IsUpper, IsTwelveBits, IsBranchOffset, IsJumpOffset, IsOperand};
 
 use crate::insn::{ImmKind, Insn};
+use crate::kinds::imm_functs;
 
 fn is_register(register: u8) -> bool
     ensures { IsTrue result ↔ IsRegister register }
@@ -37,11 +38,11 @@ fn is_jump_offset(imm: i32) -> bool
 }
 
 fn is_operand(kind: ImmKind, imm: i32) -> bool
-    ensures { IsTrue result ↔ IsOperand (shift_funct7 kind) imm }
+    ensures { IsTrue result ↔ IsOperand (imm_functs kind).funct7 imm }
 {
-    match kind {
-        ImmKind::Slli | ImmKind::Srli | ImmKind::Srai => 0 <= imm && imm <= 31,
-        _ => is_twelve_bits(imm),
+    match imm_functs(kind).funct7 {
+        Some(_) => 0 <= imm && imm <= 31,
+        None => is_twelve_bits(imm),
     }
 }
 
