@@ -1,5 +1,6 @@
 pub mod Counting
 pub mod FaultLemmas
+pub mod FirstWords
 pub mod HeaderLemmas
 pub mod LoadLemmas
 pub mod MemoryLemmas

@@ -3,6 +3,7 @@ use Rattle.std.specs.Prelude.{◌≡◌, ℕ, ◌+◌, ◌*◌, ◌%◌, ◌≤�
 use Rattle.std.specs.List.{list_any, starts_with}
 use Rattle.elf_image.specs.Elf.{number_at, has_bits, entry_address, table_offset, header_flags, table_entry_size, table_entries, program_headers, is_load, segments}
 use Rattle.elf_image.specs.Layout.{Layout, layout_of, page_of, all_pages, count_below, is_mapped, is_executable_page, end_of_heap}
+use Rattle.elf_image.specs.declared.limits.TheConstants.{MOST_PAGES, MOST_CORES, MOST_STACK, MOST_HEAP, ADDRESS_LIMIT}
 use Rattle.elf_image.specs.declared.headers.ProgramHeader.{ProgramHeader}
 use Rattle.elf_image.specs.declared.segments.Segment.{Segment}
 use Rattle.elf_image.specs.declared.fault.ImageFault.{ImageFault}
@@ -94,9 +95,9 @@ has_bad_file_range size header =
     && (nat_lt header.memory_size header.file_size
     || (nat_lt 0 header.file_size && nat_lt size (header.offset + header.file_size)))
 
--- the segments and the heap end at 0xB0000000 or below
+-- the segments and the heap end there or below
 abbrev pub address_limit : ℕ
-address_limit = 0xB0000000
+address_limit = ADDRESS_LIMIT
 
 abbrev pub passes_limit : Segment → Bool
 passes_limit segment = nat_lt address_limit segment.end
@@ -111,7 +112,7 @@ overlaps (segment ∷ rest) = list_any (shares_byte segment) rest || overlaps re
 
 -- The tests of the memory map.
 abbrev pub is_too_large : Layout → Bool
-is_too_large layout = nat_lt 4096 (count_below (is_mapped layout) all_pages)
+is_too_large layout = nat_lt MOST_PAGES (count_below (is_mapped layout) all_pages)
 
 abbrev pub has_bad_entry : Layout → Bool
 has_bad_entry layout =
@@ -176,8 +177,8 @@ image_fault bytes cores stack heap =
 -- the numbers of a layout are in their ranges, and no test applies to its file
 pub record IsAccepted (layout : Layout) : Type 0 where
   pub some_cores : 1 ≤ layout.cores
-  pub most_cores : layout.cores ≤ 32
+  pub most_cores : layout.cores ≤ MOST_CORES
   pub some_stack : 1 ≤ layout.stack
-  pub most_stack : layout.stack ≤ 4096
-  pub most_heap : layout.heap ≤ 4096
+  pub most_stack : layout.stack ≤ MOST_STACK
+  pub most_heap : layout.heap ≤ MOST_HEAP
   pub sound : image_fault layout.bytes layout.cores layout.stack layout.heap ≡ None

@@ -1,11 +1,13 @@
 -- The memory map of an accepted image: its mapped pages as a set, the number of each word, permissions, first words and first registers
 -- (this project's own; the zero bytes behind a segment's bytes in the file as in the System V gABI, "Program Header"; the use of x2, x10 and x11 as in the RISC-V psABI, "Integer Register Convention").
-use Rattle.std.specs.Prelude.{ℕ, zero, suc, ◌+◌, ◌*◌, ◌-◌, ◌/◌, ◌%◌, max, List, [], ◌∷◌, slice_get, slice_index, slice_set, replicate, fold, find, Option, Some, None, Bool, true, false, ◌&&◌, ◌||◌, ◌==◌, nat_lt, nat_le, if◌then◌else◌}
+use Rattle.std.specs.Prelude.{ℕ, zero, suc, ◌+◌, ◌*◌, ◌-◌, ◌/◌, ◌%◌, max, List, [], ◌∷◌, slice_get, slice_index, slice_set, replicate, fold, find, map, Option, Some, None, Bool, true, false, ◌&&◌, ◌||◌, ◌==◌, nat_lt, nat_le, if◌then◌else◌}
 use Rattle.std.specs.List.{range_with_len, list_any}
 use Rattle.std.specs.Option.{option_map}
 use Rattle.byteorder.specs.Endian.{little_number}
 use Rattle.elf_image.specs.Elf.{segments, entry_address, may_execute, may_write}
 use Rattle.elf_image.specs.declared.segments.Segment.{Segment}
+use Rattle.elf_image.specs.declared.device.TheConstants.{DEVICE_WORDS}
+use Rattle.elf_image.specs.declared.limits.TheConstants.{PAGE_BYTES, PAGE_WORDS, ALL_PAGES}
 
 -- a file with the count of cores, the stack pages of each core and the heap pages
 pub record Layout : Type 0 where
@@ -17,12 +19,12 @@ pub record Layout : Type 0 where
 abbrev pub layout_of : List ℕ → ℕ → ℕ → ℕ → Layout
 layout_of bytes cores stack heap = record { bytes = bytes; cores = cores; stack = stack; heap = heap }
 
--- a page is 4,096 bytes, and memory has 2^20 pages
+-- the page of an address, and how many pages memory has
 abbrev pub page_of : ℕ → ℕ
-page_of address = address / 4096
+page_of address = address / PAGE_BYTES
 
 abbrev pub all_pages : ℕ
-all_pages = 1048576
+all_pages = ALL_PAGES
 
 -- the highest end of a loaded segment
 abbrev pub highest_end : List Segment → ℕ
@@ -30,14 +32,14 @@ highest_end loaded = fold (λ high segment. max high segment.end) 0 loaded
 
 -- the first page at or above the highest end of the segments, where the heap begins
 abbrev pub break_page : List Segment → ℕ
-break_page loaded = (highest_end loaded + 4095) / 4096
+break_page loaded = (highest_end loaded + PAGE_BYTES - 1) / PAGE_BYTES
 
 abbrev pub break_base : Layout → ℕ
-break_base layout = 4096 * break_page (segments layout.bytes)
+break_base layout = PAGE_BYTES * break_page (segments layout.bytes)
 
 -- the address above a heap of some pages
 abbrev pub end_of_heap : List Segment → ℕ → ℕ
-end_of_heap loaded heap = 4096 * break_page loaded + 4096 * heap
+end_of_heap loaded heap = PAGE_BYTES * break_page loaded + PAGE_BYTES * heap
 
 abbrev pub heap_end : Layout → ℕ
 heap_end layout = end_of_heap (segments layout.bytes) layout.heap
@@ -48,7 +50,7 @@ stack_top core = 0xF0000000 - core * 0x02000000
 
 -- whether a segment has a byte on a page
 abbrev pub touches : ℕ → Segment → Bool
-touches page segment = nat_lt segment.start (4096 * page + 4096) && nat_lt (4096 * page) segment.end
+touches page segment = nat_lt segment.start (PAGE_BYTES * page + PAGE_BYTES) && nat_lt (PAGE_BYTES * page) segment.end
 
 -- whether a page is one of the heap, and whether it is one of the stack of a core
 abbrev pub is_heap_page : ℕ → ℕ → ℕ → Bool
@@ -56,7 +58,7 @@ is_heap_page first count page = nat_le first page && nat_lt page (first + count)
 
 abbrev pub is_stack_page_of : ℕ → ℕ → ℕ → Bool
 is_stack_page_of stack page core =
-    nat_le (stack_top core) (4096 * page + 4096 * stack) && nat_lt (4096 * page) (stack_top core)
+    nat_le (stack_top core) (PAGE_BYTES * page + PAGE_BYTES * stack) && nat_lt (PAGE_BYTES * page) (stack_top core)
 
 abbrev pub is_stack_page : ℕ → ℕ → ℕ → Bool
 is_stack_page cores stack page = list_any (is_stack_page_of stack page) (range_with_len 0 cores)
@@ -101,15 +103,15 @@ nth_from set (suc fuel) from k =
       | false ↦ nth_from set fuel (from + 1) k
     ]
 
--- how many words there are: the three devices, and 1,024 words for each mapped page
+-- how many words there are: those of the devices, and those of each mapped page
 unfoldable pub words_of : Layout → ℕ
-words_of layout = 3 + 1024 * count_below (is_mapped layout) all_pages
+words_of layout = DEVICE_WORDS + PAGE_WORDS * count_below (is_mapped layout) all_pages
 
 -- the number of the word that holds an address
 unfoldable pub word_of : Layout → ℕ → Option ℕ
 word_of layout address =
     if is_mapped layout (page_of address)
-    then Some (3 + 1024 * count_below (is_mapped layout) (page_of address) + address % 4096 / 4)
+    then Some (DEVICE_WORDS + PAGE_WORDS * count_below (is_mapped layout) (page_of address) + address % PAGE_BYTES / 4)
     else None
 
 unfoldable pub is_writable : Layout → ℕ → Bool
@@ -141,7 +143,7 @@ word_at layout address = loaded_word layout.bytes (segments layout.bytes) addres
 -- the address of a guest word, counted from 0
 unfoldable pub address_of : Layout → ℕ → ℕ
 address_of layout index =
-    4096 * nth_from (is_mapped layout) all_pages 0 (index / 1024) + 4 * (index % 1024)
+    PAGE_BYTES * nth_from (is_mapped layout) all_pages 0 (index / PAGE_WORDS) + 4 * (index % PAGE_WORDS)
 
 -- the first value of a word: input position, output length and break, then the guest words
 unfoldable pub first_word : Layout → ℕ → ℕ
@@ -149,6 +151,10 @@ first_word layout zero = 0
 first_word layout (suc zero) = 0
 first_word layout (suc (suc zero)) = break_base layout
 first_word layout (suc (suc (suc index))) = word_at layout (address_of layout index)
+
+-- the first values of all words, in the order of their numbers
+abbrev pub first_words : Layout → List ℕ
+first_words layout = map (first_word layout) (range_with_len 0 (words_of layout))
 
 -- the instruction word at a pc that is a multiple of 4 on an executable page
 unfoldable pub fetched : Layout → ℕ → Option ℕ

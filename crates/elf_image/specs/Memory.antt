@@ -4,6 +4,7 @@ use Rattle.std.specs.List.{list_any}
 use Rattle.elf_image.specs.Elf.{segments}
 use Rattle.elf_image.specs.Layout.{Layout, is_mapped, is_writable_page, is_executable_page, count_below, all_pages, word_at, address_of, break_base, heap_end, entry_of}
 use Rattle.elf_image.specs.ImageFault.{address_limit, passes_limit}
+use Rattle.elf_image.specs.declared.limits.TheConstants.{MOST_PAGES, PAGE_WORDS}
 use Rattle.elf_image.specs.declared.segments.Segment.{Segment}
 use Rattle.elf_image.specs.PageTable.{IsTableBelow}
 use Rattle.elf_image.specs.declared.memory_image.Page.{Page}
@@ -26,11 +27,11 @@ page_of_layout layout page =
     })
     else None
 
--- the table of pages and the first words of a layout of at most 4,096 mapped pages
+-- the table of pages and the first words of a layout whose mapped pages are not too many
 pub record IsMemoryOf (layout : Layout) (mapped : List ℕ) (permissions : List Permissions) (words : List ℕ) : Type 0 where
-  pub few : count_below (is_mapped layout) all_pages ≤ 4096
+  pub few : count_below (is_mapped layout) all_pages ≤ MOST_PAGES
   pub table : IsTableBelow (is_mapped layout) (permissions_of_layout layout) mapped permissions all_pages
-  pub words_size : length words ≡ 1024 * count_below (is_mapped layout) all_pages
+  pub words_size : length words ≡ PAGE_WORDS * count_below (is_mapped layout) all_pages
   pub items : (k d : ℕ) → k < length words → slice_index_or words k d ≡ word_at layout (address_of layout k)
 
 -- the segments of a layout, none of which passes the limit, and the addresses that are kept

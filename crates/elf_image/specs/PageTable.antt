@@ -2,6 +2,7 @@
 use Rattle.std.specs.Prelude.{◌≡◌, ℕ, ◌<◌, ◌≤◌, false, List, length, slice_index, slice_index_or, ◌+◌, ◌*◌, ◌/◌, ◌%◌, Bool, true, ◌&&◌}
 use Rattle.elf_image.specs.Elf.{may_write}
 use Rattle.elf_image.specs.Layout.{touches, maps, writes, executes, count_below, all_pages}
+use Rattle.elf_image.specs.declared.limits.TheConstants.{PAGE_BYTES, PAGE_WORDS}
 use Rattle.elf_image.specs.declared.segments.Segment.{Segment}
 use Rattle.elf_image.specs.declared.page_table.Permissions.{Permissions}
 
@@ -47,7 +48,7 @@ pub record IsExtended (old new : List ℕ) (item : ℕ → ℕ) (count : ℕ) : 
   pub kept : (k : ℕ) → k < length old → slice_index new k ≡ slice_index old k
   pub added : (k : ℕ) → k < count → slice_index new (length old + k) ≡ item k
 
--- a list has the words of the first pages of a list, 1,024 of each, as `word` gives them by their addresses
+-- a list has the words of the first pages of a list, all of each, as `word` gives them by their addresses
 pub record IsContents (word : ℕ → ℕ) (pages words : List ℕ) (count : ℕ) : Type 0 where
-  pub size : length words ≡ 1024 * count
-  pub items : (k : ℕ) → k < length words → slice_index words k ≡ word (4096 * slice_index pages (k / 1024) + 4 * (k % 1024))
+  pub size : length words ≡ PAGE_WORDS * count
+  pub items : (k : ℕ) → k < length words → slice_index words k ≡ word (PAGE_BYTES * slice_index pages (k / PAGE_WORDS) + 4 * (k % PAGE_WORDS))

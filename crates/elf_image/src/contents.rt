@@ -3,12 +3,10 @@ ghost use Rattle.std.specs.Prelude.{◌≡◌, ◌≤◌, ◌+◌, ◌*◌, ◌<
 ghost use Rattle.elf_image.specs.Layout.{fills, byte_of, loaded_word};
 ghost use Rattle.elf_image.specs.PageTable.{IsContents, IsExtended};
 
+use crate::limits::{ALL_PAGES, MOST_PAGES, PAGE_BYTES, PAGE_WORDS};
 use crate::segments::Segment;
 use byteorder::{ByteOrder, LittleEndian};
 use std::alloc::{AllocError, Global};
-
-/// The words of a page.
-pub const PAGE_WORDS: u32 = 1024;
 
 /// The first segment for which the file has the byte at an address.
 fn segment_filling(segments: &[Segment], address: u32) -> Option<Segment>
@@ -57,11 +55,11 @@ fn push_page(
     segments: &[Segment],
     page: u32,
 ) -> Result<(), AllocError>
-    requires { page < 1048576 }
-    ensures { OnOk result (IsExtended words.old.items words.new.items (λ index. loaded_word bytes.now segments.now (4096 * page + 4 * index)) 1024) }
+    requires { page < ALL_PAGES }
+    ensures { OnOk result (IsExtended words.old.items words.new.items (λ index. loaded_word bytes.now segments.now (PAGE_BYTES * page + 4 * index)) PAGE_WORDS) }
 {
     for index in 0..PAGE_WORDS {
-        words.push(loaded_word(bytes, segments, 4096 * page + 4 * index))?;
+        words.push(loaded_word(bytes, segments, PAGE_BYTES * page + 4 * index))?;
     }
     Ok(())
 }
@@ -73,8 +71,8 @@ pub fn first_words(
     segments: &[Segment],
     pages: &[u32],
 ) -> Result<Vec<u32>, AllocError>
-    requires few { length pages.now ≤ 4096 }
-    requires low { All (λ page. page < 1048576) pages.now }
+    requires few { length pages.now ≤ MOST_PAGES }
+    requires low { All (λ page. page < ALL_PAGES) pages.now }
     ensures { IfOk result (λ words. IsContents (loaded_word bytes.now segments.now) pages.now words.items (length pages.now)) }
 {
     let mut words = Vec::with_capacity(alloc, PAGE_WORDS as usize * pages.len())?;

@@ -8,3 +8,6 @@ pub const OUTPUT_WORD: u32 = 1;
 
 /// The program break.
 pub const BREAK_WORD: u32 = 2;
+
+/// How many words the devices have.
+pub const DEVICE_WORDS: u32 = 3;

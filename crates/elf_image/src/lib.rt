@@ -6,6 +6,7 @@ mod contents;
 pub mod device;
 mod fault;
 mod headers;
+pub mod limits;
 mod loading;
 mod memory_image;
 mod page_table;

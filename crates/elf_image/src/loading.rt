@@ -9,6 +9,7 @@ ghost use Rattle.elf_image.specs.PageTable.{IsTableOf};
 
 use crate::fault::ImageFault;
 use crate::headers::read_headers;
+use crate::limits::{MOST_CORES, MOST_PAGES, MOST_STACK, PAGE_BYTES};
 use crate::page_table::{DataPages, PageTable, any_executable, page_table};
 use crate::segments::{Segment, break_page, loaded_segments};
 use crate::validation::{check_header, check_identification, check_segments};
@@ -40,12 +41,12 @@ pub fn map_memory(
     stack: u32,
     heap: u32,
 ) -> Result<PageTable, ImageFault>
-    requires cores { cores ≤ 32 }
-    requires stack { stack ≤ 4096 }
+    requires cores { cores ≤ MOST_CORES }
+    requires stack { stack ≤ MOST_STACK }
     requires heap_end { end_of_heap segments.now heap ≤ address_limit }
     ensures table { IfOk result (λ table. IsTableOf segments.now cores stack heap table.mapped.items table.permissions.items) }
-    ensures few { IfOk result (λ table. vec_len table.mapped ≤ 4096) }
-    ensures refused { IfErr result (λ fault. fault ≢ ImageFault.NoMemory → (fault ≡ ImageFault.TooLarge) × (4096 < count_below (maps segments.now cores stack heap) all_pages)) }
+    ensures few { IfOk result (λ table. vec_len table.mapped ≤ MOST_PAGES) }
+    ensures refused { IfErr result (λ fault. fault ≢ ImageFault.NoMemory → (fault ≡ ImageFault.TooLarge) × (MOST_PAGES < count_below (maps segments.now cores stack heap) all_pages)) }
 {
     let regions = DataPages {
         first: break_page(segments) as u32,
@@ -58,11 +59,11 @@ pub fn map_memory(
 
 /// Refuses an entry that is not a multiple of 4 or not on an executable page.
 pub fn check_entry(entry: u32, segments: &[Segment]) -> Result<(), ImageFault>
-    ensures { result_err result ≡ (if not (entry % 4 == 0) || not (executes segments.now (entry / 4096)) then Some ImageFault.Entry else None) }
+    ensures { result_err result ≡ (if not (entry % 4 == 0) || not (executes segments.now (entry / PAGE_BYTES)) then Some ImageFault.Entry else None) }
 {
     if entry % 4 != 0 {
         Err(ImageFault::Entry)
-    } else if any_executable(segments, entry / 4096) {
+    } else if any_executable(segments, entry / PAGE_BYTES) {
         Ok(())
     } else {
         Err(ImageFault::Entry)

@@ -2,26 +2,19 @@
 ghost use Rattle.std.specs.Prelude.{◌≡◌, ◌≢◌, ◌/◌, ◌%◌, ◌<◌, ◌≤◌, length, Some, None, IfOk, IfErr, OnOk};
 ghost use Rattle.elf_image.specs.Elf.{segments};
 ghost use Rattle.elf_image.specs.ImageFault.{IsAccepted, image_fault};
-ghost use Rattle.elf_image.specs.Layout.{break_base, entry_of, fetched, first_word, heap_end, is_writable, layout_of, segment_at, word_of, words_of};
+ghost use Rattle.elf_image.specs.Layout.{break_base, entry_of, fetched, first_word, first_words, heap_end, is_writable, layout_of, segment_at, word_of, words_of};
 ghost use Rattle.elf_image.specs.Memory.{page_of_layout};
 
-use crate::contents::{PAGE_WORDS, first_words};
+use crate::contents::first_words;
+use crate::device::{BREAK_WORD, DEVICE_WORDS};
 use crate::fault::ImageFault;
 use crate::headers::entry_address;
+use crate::limits::{MOST_CORES, MOST_HEAP, MOST_STACK, PAGE_BYTES, PAGE_WORDS};
 use crate::loading::{accepted_segments, check_entry, map_memory};
 use crate::page_table::{PageTable, Permissions, place_among};
 use crate::segments::{Segment, break_page, segment_at};
-use std::alloc::Global;
+use std::alloc::{AllocError, Global};
 use std::marker::Model;
-
-/// The bytes of a page.
-const PAGE_BYTES: u32 = 4096;
-
-/// The devices' words, which come before those of memory: input, output and break.
-const DEVICE_WORDS: u32 = 3;
-
-/// The word of the break device.
-const BREAK_WORD: u32 = 2;
 
 /// A mapped page: how many mapped pages lie below it, and what may be done there.
 #[derive(Clone, Copy)]
@@ -69,10 +62,10 @@ pub fn load(
     heap: u32,
 ) -> Result<Image, ImageFault>
     requires cores_low { 1 ≤ cores }
-    requires cores_high { cores ≤ 32 }
+    requires cores_high { cores ≤ MOST_CORES }
     requires stack_low { 1 ≤ stack }
-    requires stack_high { stack ≤ 4096 }
-    requires heap_high { heap ≤ 4096 }
+    requires stack_high { stack ≤ MOST_STACK }
+    requires heap_high { heap ≤ MOST_HEAP }
     ensures image { IfOk result (λ image. image ≡ layout_of bytes.now cores stack heap) }
     ensures accepted { OnOk result (image_fault bytes.now cores stack heap ≡ None) }
     ensures refused { IfErr result (λ fault. fault ≢ ImageFault.NoMemory → image_fault bytes.now cores stack heap ≡ Some fault) }
@@ -165,7 +158,7 @@ impl Image {
 
     /// What the table of pages says of the page of an address; `None` where it is not mapped.
     fn page(&self, address: u32) -> Option<Page>
-        ensures { result ≡ page_of_layout self.now (address / 4096) }
+        ensures { result ≡ page_of_layout self.now (address / PAGE_BYTES) }
     {
         let number = address / PAGE_BYTES;
         let place = place_among(&self.mapped, number);
@@ -234,5 +227,18 @@ impl Image {
         } else {
             self.words[(word - DEVICE_WORDS) as usize]
         }
+    }
+
+    /// The first values of all words, in the order of their numbers.
+    #[tactic(auto, using(crate::proofs::FirstWords::map_more))]
+    pub fn first_words(&self, alloc: Global) -> Result<Vec<u32>, AllocError>
+        ensures { IfOk result (λ words. words.items ≡ first_words self.now) }
+    {
+        let count = self.words();
+        let mut words = Vec::with_capacity(alloc, count as usize)?;
+        for word in 0..count {
+            words.push(self.first_word(word))?;
+        }
+        Ok(words)
     }
 }

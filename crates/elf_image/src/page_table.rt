@@ -6,11 +6,9 @@ ghost use Rattle.elf_image.specs.Layout.{all_pages, break_page, count_below, exe
 ghost use Rattle.elf_image.specs.PageTable.{IsNextOf, IsTableOf, may_write_page, permissions_of};
 
 use crate::fault::ImageFault;
-use crate::segments::{ALL_PAGES, Segment};
+use crate::limits::{ALL_PAGES, MOST_CORES, MOST_PAGES, MOST_STACK};
+use crate::segments::Segment;
 use std::alloc::Global;
-
-/// The mapped pages that an image has at most.
-const MOST_PAGES: usize = 4096;
 
 /// The page above the stack of core 0, and the distance between two stacks.
 const FIRST_STACK_TOP: u32 = 0xf_0000;
@@ -37,8 +35,8 @@ pub struct DataPages {
 impl DataPages {
     /// Whether a page is one of the heap or of a stack.
     pub fn contains(self, page: u32) -> bool
-        requires cores { self.cores ≤ 32 }
-        requires stack { self.stack ≤ 4096 }
+        requires cores { self.cores ≤ MOST_CORES }
+        requires stack { self.stack ≤ MOST_STACK }
         ensures { result ≡ (is_heap_page self.first self.heap page || is_stack_page self.cores self.stack page) }
     {
         let is_heap = self.first <= page
@@ -48,7 +46,7 @@ impl DataPages {
 
     /// The first page from a page on that is one of the heap, or that of the end of memory.
     fn next_heap_page(self, from: u32) -> u32
-        requires { from ≤ 1048576 }
+        requires { from ≤ ALL_PAGES }
         ensures { IsNextOf (is_heap_page self.first self.heap) from result }
     {
         let next = from.max(self.first);
@@ -62,9 +60,9 @@ impl DataPages {
 
 /// The first page from a page on that is one of the stack of a core, or that of the end of memory.
 fn next_page_of_stack(stack: u32, core: u8, from: u32) -> u32
-    requires from { from ≤ 1048576 }
-    requires core { core < 32 }
-    requires stack { stack ≤ 4096 }
+    requires from { from ≤ ALL_PAGES }
+    requires core { core < MOST_CORES }
+    requires stack { stack ≤ MOST_STACK }
     ensures { IsNextOf (λ page. is_stack_page_of stack page core) from result }
 {
     let top = FIRST_STACK_TOP - STACK_DISTANCE * u32::from(core);
@@ -74,9 +72,9 @@ fn next_page_of_stack(stack: u32, core: u8, from: u32) -> u32
 
 /// The first page from a page on that is one of some stack, or that of the end of memory.
 fn next_stack_page(cores: u8, stack: u32, from: u32) -> u32
-    requires from { from ≤ 1048576 }
-    requires cores { cores ≤ 32 }
-    requires stack { stack ≤ 4096 }
+    requires from { from ≤ ALL_PAGES }
+    requires cores { cores ≤ MOST_CORES }
+    requires stack { stack ≤ MOST_STACK }
     ensures { IsNextOf (is_stack_page cores stack) from result }
 {
     let mut next = ALL_PAGES;
@@ -88,7 +86,7 @@ fn next_stack_page(cores: u8, stack: u32, from: u32) -> u32
 
 /// The first page from a page on where some segment has a byte, or that of the end of memory.
 fn next_touched(segments: &[Segment], from: u32) -> u32
-    requires { from ≤ 1048576 }
+    requires { from ≤ ALL_PAGES }
     ensures { IsNextOf (λ page. list_any (touches page) segments.now) from result }
 {
     match segments {
@@ -99,9 +97,9 @@ fn next_touched(segments: &[Segment], from: u32) -> u32
 
 /// The first page from a page on that is mapped, or that of the end of memory.
 fn next_mapped(segments: &[Segment], regions: DataPages, from: u32) -> u32
-    requires from { from ≤ 1048576 }
-    requires cores { regions.cores ≤ 32 }
-    requires stack { regions.stack ≤ 4096 }
+    requires from { from ≤ ALL_PAGES }
+    requires cores { regions.cores ≤ MOST_CORES }
+    requires stack { regions.stack ≤ MOST_STACK }
     requires first { regions.first ≡ break_page segments.now }
     ensures { IsNextOf (maps segments.now regions.cores regions.stack regions.heap) from result }
 {
@@ -113,8 +111,8 @@ fn next_mapped(segments: &[Segment], regions: DataPages, from: u32) -> u32
 
 /// Whether a page is one of the stack of a core.
 fn is_stack_page(cores: u8, stack: u32, page: u32) -> bool
-    requires cores { cores ≤ 32 }
-    requires stack { stack ≤ 4096 }
+    requires cores { cores ≤ MOST_CORES }
+    requires stack { stack ≤ MOST_STACK }
     ensures { result ≡ is_stack_page cores stack page }
 {
     if page >= FIRST_STACK_TOP {
@@ -144,8 +142,8 @@ pub fn any_executable(segments: &[Segment], page: u32) -> bool
 
 /// What may be done on a page.
 fn permissions_on(segments: &[Segment], regions: DataPages, page: u32) -> Permissions
-    requires cores { regions.cores ≤ 32 }
-    requires stack { regions.stack ≤ 4096 }
+    requires cores { regions.cores ≤ MOST_CORES }
+    requires stack { regions.stack ≤ MOST_STACK }
     requires first { regions.first ≡ break_page segments.now }
     ensures { result ≡ permissions_of segments.now regions.cores regions.stack regions.heap page }
 {
@@ -170,12 +168,12 @@ pub fn page_table(
     segments: &[Segment],
     regions: DataPages,
 ) -> Result<PageTable, ImageFault>
-    requires cores { regions.cores ≤ 32 }
-    requires stack { regions.stack ≤ 4096 }
+    requires cores { regions.cores ≤ MOST_CORES }
+    requires stack { regions.stack ≤ MOST_STACK }
     requires first { regions.first ≡ break_page segments.now }
     ensures table { IfOk result (λ table. IsTableOf segments.now regions.cores regions.stack regions.heap table.mapped.items table.permissions.items) }
-    ensures few { IfOk result (λ table. vec_len table.mapped ≤ 4096) }
-    ensures refused { IfErr result (λ fault. fault ≢ ImageFault.NoMemory → (fault ≡ ImageFault.TooLarge) × (4096 < count_below (maps segments.now regions.cores regions.stack regions.heap) all_pages)) }
+    ensures few { IfOk result (λ table. vec_len table.mapped ≤ MOST_PAGES) }
+    ensures refused { IfErr result (λ fault. fault ≢ ImageFault.NoMemory → (fault ≡ ImageFault.TooLarge) × (MOST_PAGES < count_below (maps segments.now regions.cores regions.stack regions.heap) all_pages)) }
 {
     let mut mapped = Vec::new(alloc);
     let mut allowed = Vec::new(alloc);

@@ -7,20 +7,12 @@ ghost use Rattle.elf_image.specs.ImageFault.{passes_limit, shares_byte, overlaps
 ghost use Rattle.elf_image.specs.PageTable.{IsNextOf};
 
 use crate::headers::ProgramHeader;
+use crate::limits::{ADDRESS_LIMIT, ALL_PAGES, PAGE_BYTES};
 use std::alloc::{AllocError, Global};
 
 const PF_X: u32 = 1;
 
 const PF_W: u32 = 2;
-
-/// The pages of the whole address space.
-pub const ALL_PAGES: u32 = 1 << 20;
-
-/// The bytes of a page.
-pub const PAGE_BYTES: u64 = 4096;
-
-/// The address that no segment and no heap passes.
-pub const ADDRESS_LIMIT: u64 = 0xb000_0000;
 
 /// A loaded segment: its first address, the address after its last, its permission flags, and where
 /// its bytes stand in the file.
@@ -66,16 +58,17 @@ impl Segment {
     pub fn touches(&self, page: u32) -> bool
         ensures { result ≡ touches page self.now }
     {
-        let first = PAGE_BYTES * u64::from(page);
-        u64::from(self.start) < first + PAGE_BYTES && first < self.end
+        let bytes = u64::from(PAGE_BYTES);
+        let first = bytes * u64::from(page);
+        u64::from(self.start) < first + bytes && first < self.end
     }
 
     /// The first page from a page on where the segment has a byte, or that of the end of memory.
     pub fn next_touched(&self, from: u32) -> u32
-        requires { from ≤ 1048576 }
+        requires { from ≤ ALL_PAGES }
         ensures { IsNextOf (λ page. touches page self.now) from result }
     {
-        let next = from.max(self.start / 4096);
+        let next = from.max(self.start / PAGE_BYTES);
         if next < ALL_PAGES && self.touches(next) {
             next
         } else {
@@ -147,5 +140,5 @@ pub fn highest_end(segments: &[Segment]) -> u64
 pub fn break_page(segments: &[Segment]) -> u64
     ensures { result ≡ break_page segments.now }
 {
-    highest_end(segments).div_ceil(PAGE_BYTES)
+    highest_end(segments).div_ceil(u64::from(PAGE_BYTES))
 }

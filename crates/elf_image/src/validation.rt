@@ -9,7 +9,8 @@ use crate::fault::ImageFault;
 use crate::headers::{
     HEADER_BYTES, ProgramHeader, any_bad_file_range, any_dynamic, table_entries, table_offset,
 };
-use crate::segments::{ADDRESS_LIMIT, PAGE_BYTES, Segment, any_passes_limit, break_page, overlap};
+use crate::limits::{ADDRESS_LIMIT, PAGE_BYTES};
+use crate::segments::{Segment, any_passes_limit, break_page, overlap};
 use byteorder::{ByteOrder, LittleEndian};
 
 const ELF_HEADER_BYTES: usize = 52;
@@ -90,7 +91,7 @@ pub fn end_of_heap(segments: &[Segment], heap: u32) -> u64
     requires { list_any passes_limit segments.now ≡ false }
     ensures { result ≡ end_of_heap segments.now heap }
 {
-    PAGE_BYTES * break_page(segments) + PAGE_BYTES * u64::from(heap)
+    u64::from(PAGE_BYTES) * (break_page(segments) + u64::from(heap))
 }
 
 /// Refuses a file of a size by the first fault of its program headers, of the segments that they load
