@@ -11,7 +11,7 @@ ghost use Rattle.rv_execute.specs.Instructions.{asked, resumed, IsFinishedBy, nu
 use crate::alu::{branches, compute, form_of};
 use crate::hart::Hart;
 use crate::lanes::load;
-use crate::op::Taken;
+use crate::op::{MOST_NUMBERS, Taken};
 use crate::start::number_asked;
 use rv_decode::{BranchKind, Insn};
 
@@ -20,7 +20,7 @@ use rv_decode::{BranchKind, Insn};
 pub fn resume(hart: &mut Hart, insn: Insn, taken: Option<Taken>)
     requires fits { Fits insn }
     requires finished { IsFinishedBy (asked (state_of hart.old) insn) taken }
-    requires numbered { ForSome taken (λ t. t.number < 4294967294) }
+    requires numbered { ForSome taken (λ t. t.number < MOST_NUMBERS) }
     ensures { state_of hart.new ≡ resumed (state_of hart.old) insn taken }
 {
     let found = found(taken);
@@ -56,10 +56,10 @@ pub fn resume(hart: &mut Hart, insn: Insn, taken: Option<Taken>)
 
 /// What the access found. An instruction that asked for none reads neither number nor word.
 fn found(taken: Option<Taken>) -> Taken
-    requires { ForSome taken (λ t. t.number < 4294967294) }
+    requires { ForSome taken (λ t. t.number < MOST_NUMBERS) }
     ensures number { result.number ≡ number_of taken }
     ensures word { result.old ≡ found_by taken }
-    ensures numbered { result.number < 4294967294 }
+    ensures numbered { result.number < MOST_NUMBERS }
 {
     match taken {
         Some(found) => found,
@@ -87,7 +87,7 @@ fn branch(hart: &mut Hart, kind: BranchKind, rs1: u8, rs2: u8, imm: i32)
 fn load_reserved(hart: &mut Hart, rd: u8, rs1: u8, found: Taken)
     requires destination { rd < 32 }
     requires source { rs1 < 32 }
-    requires numbered { found.number < 4294967294 }
+    requires numbered { found.number < MOST_NUMBERS }
     ensures { let before = state_of hart.old in state_of hart.new ≡ record { regs = written rd found.old before.regs; pc = plus before.pc 4; kept = Some (reg before rs1, found.number) } }
 {
     hart.reserve(hart.register(rs1), found.number);

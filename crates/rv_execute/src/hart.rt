@@ -1,5 +1,6 @@
 ghost use Rattle.std.specs.Prelude.{◌≡◌, ◌<◌, ◌%◌, slice_index};
 ghost use Rattle.std.specs.Option.{ForSome};
+ghost use Rattle.rv_execute.specs.declared.op.TheConstants.{MOST_NUMBERS};
 
 /// The registers of one hart: x0 to x31, the program counter, and what its last load-reserved kept,
 /// the word's address and the number of that access.
@@ -10,7 +11,7 @@ pub struct Hart {
     pub kept: Option<(u32, u32)>,
     ghost zero: { slice_index regs 0 ≡ 0 },
     ghost aligned: { pc % 4 ≡ 0 },
-    ghost kept_below: { ForSome kept (λ k. k.1 < 4294967294) },
+    ghost kept_below: { ForSome kept (λ k. k.1 < MOST_NUMBERS) },
 }
 
 impl Hart {
@@ -96,7 +97,7 @@ impl Hart {
 
     /// Keeps a word's address and the number of an access to it.
     pub(crate) fn reserve(&mut self, address: u32, number: u32)
-        requires { number < 4294967294 }
+        requires { number < MOST_NUMBERS }
         ensures { state_of self.new ≡ record (state_of self.old) { kept = Some (address, number) } }
     {
         self.kept = Some((address, number));

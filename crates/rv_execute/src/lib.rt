@@ -18,7 +18,7 @@ pub use ask::Ask;
 pub use fault::Fault;
 pub use finish::resume;
 pub use hart::Hart;
-pub use op::{NO_NUMBER, Op, Taken};
+pub use op::{MOST_NUMBERS, NO_NUMBER, Op, Taken};
 pub use payload::apply;
 pub use start::begin;
 pub use touched::bytes_touched;

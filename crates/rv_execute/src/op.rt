@@ -3,6 +3,9 @@ use rv_decode::AmoKind;
 /// The number that no access ever has. A store-conditional that has lost its reservation is asked with it.
 pub const NO_NUMBER: u32 = 4294967295;
 
+/// How many numbers the accesses to a word have at most. Each number is below this, so that the next one is not `NO_NUMBER` either.
+pub const MOST_NUMBERS: u32 = NO_NUMBER - 1;
+
 /// What an access does to the word that it touches. Masks and values have the word's 32 bits.
 #[derive(Clone, Copy, Debug, PartialEq, Eq)]
 pub enum Op {

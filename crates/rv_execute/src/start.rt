@@ -13,7 +13,7 @@ use crate::ask::Ask;
 use crate::fault::Fault;
 use crate::hart::Hart;
 use crate::lanes::{byte_write, half_write};
-use crate::op::{NO_NUMBER, Op};
+use crate::op::{MOST_NUMBERS, NO_NUMBER, Op};
 use rv_decode::{BranchKind, Insn, LoadKind, StoreKind};
 
 /// What an instruction asks of memory or of the environment before it can be finished. The hart stays as it is.
@@ -60,7 +60,7 @@ pub fn begin(hart: &Hart, insn: Insn) -> Ask
 
 /// The number with which a store-conditional to this address is asked.
 pub fn number_asked(kept: Option<(u32, u32)>, address: u32) -> u32
-    requires { ForSome kept (λ k. k.1 < 4294967294) }
+    requires { ForSome kept (λ k. k.1 < MOST_NUMBERS) }
     ensures { result ≡ asked_number kept address }
 {
     match kept {

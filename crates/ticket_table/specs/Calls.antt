@@ -1,5 +1,6 @@
 -- What a call of a table asks of the pass that it comes with, and what it did to the pass (this project's own form).
 use Rattle.std.specs.Prelude.{◌≡◌, ◌≢◌, ℕ, ◌+◌, ◌<◌, nat_le, false, List, length}
+use Rattle.rv_execute.specs.declared.op.TheConstants.{MOST_NUMBERS}
 use Rattle.rv_execute.specs.declared.op.Op.{Op}
 use Rattle.rv_execute.specs.declared.op.Op.TheVariants.{Read}
 use Rattle.rv_execute.specs.declared.op.Taken.{Taken}
@@ -44,7 +45,7 @@ pub record HasDrawn (t : TableSeen) (before after : PassSeen) (word : ℕ) (op :
   pub spent : taken.spent ≡ nat_le t.basis.terms.limit taken.number
   pub spends : is_spent after ≡ taken.spent
   pub below : taken.number < t.basis.terms.limit + t.basis.terms.callers
-  pub small : taken.number < 4294967294
+  pub small : taken.number < MOST_NUMBERS
 
 -- the pass has changed the word at this number, or one of its steps found the word at another number and it changed nothing
 pub record HasServed (t : TableSeen) (before after : PassSeen) (word number : ℕ) (op : Op) (served : Served) : Type 0 where

@@ -4,6 +4,7 @@ use mathlib.Core.Option.{Option, none, some}
 use lib.ListN.{get_elem?}
 use Rattle.atomic_table.specs.Table.{State, Me, Step}
 use Rattle.atomic_table.specs.Seated.{TableId}
+use Rattle.rv_execute.specs.declared.op.TheConstants.{MOST_NUMBERS}
 use Rattle.rv_execute.specs.declared.op.Op.TheVariants.{Read}
 use Rattle.ticket_table.specs.declared.change.Role.TheVariants.{Draw}
 use Rattle.ticket_table.specs.declared.change.Setting.{Setting}
@@ -85,4 +86,4 @@ pub record IsTable (limit : ℕ) (table : TableId) (basis : Basis) : Type 0 wher
   pub slots : table.slots ≡ 0
   pub some_word : 0 < length basis.first
   pub some_caller : 0 < basis.terms.callers
-  pub room : basis.terms.limit + basis.terms.callers ≤ 4294967294
+  pub room : basis.terms.limit + basis.terms.callers ≤ MOST_NUMBERS

@@ -14,7 +14,7 @@ use crate::rule::{Counts, Exchanges, Looks, Tickets};
 use crate::served::Served;
 use crate::word::{HALF, joined, number, payload};
 use atomic_table::{Seat, Shared};
-use rv_execute::{Op, apply};
+use rv_execute::{MOST_NUMBERS, Op, apply};
 
 type Words = Shared<Note, View, Setting, Tickets>;
 
@@ -35,7 +35,7 @@ fn left(op: Op, number: u32, old: u32, limit: u32) -> u32
 fn look(shared: &Words, seat: &mut Place, word: u32) -> (u32, u32)
     requires place { (seat.old.table_id ≡ shared.now.table_id) × (word < shared.now.table_id.words) × (word < length shared.now.key.first.items) }
     requires alone { IsAlone seat.old.me.0 (first_caller seat.old.me.0) }
-    requires terms { (seat.old.me.0.terms.role ≡ Draw) × (seat.old.me.0.terms.limit + seat.old.me.0.terms.callers ≤ 4294967294) }
+    requires terms { (seat.old.me.0.terms.role ≡ Draw) × (seat.old.me.0.terms.limit + seat.old.me.0.terms.callers ≤ MOST_NUMBERS) }
     requires unspent { has_spent seat.old.me.0.terms.role seat.old.me.0.terms.limit seat.old.me.0.mine ≡ false }
     ensures seat { (seat.new.table_id ≡ seat.old.table_id) × (seat.new.me ≡ (grown seat.old.me.0 (made seat.old.me.0.terms (first_caller seat.old.me.0) word result.0 Read result.1), seat.old.me.1)) }
     ensures follows { Follows seat.old.me.0.mine (made seat.old.me.0.terms (first_caller seat.old.me.0) word result.0 Read result.1) }
@@ -49,7 +49,7 @@ fn look(shared: &Words, seat: &mut Place, word: u32) -> (u32, u32)
 fn exchange(shared: &Words, seat: &mut Place, word: u32, limit: u32, note: &Note) -> (u32, u32)
     requires place { (seat.old.table_id ≡ shared.now.table_id) × (word < shared.now.table_id.words) × (word < length shared.now.key.first.items) }
     requires alone { IsAlone seat.old.me.0 note.now.caller }
-    requires terms { (seat.old.me.0.terms.role ≡ Draw) × (seat.old.me.0.terms.limit ≡ limit) × (limit + seat.old.me.0.terms.callers ≤ 4294967294) }
+    requires terms { (seat.old.me.0.terms.role ≡ Draw) × (seat.old.me.0.terms.limit ≡ limit) × (limit + seat.old.me.0.terms.callers ≤ MOST_NUMBERS) }
     requires unspent { has_spent seat.old.me.0.terms.role seat.old.me.0.terms.limit seat.old.me.0.mine ≡ false }
     ensures seat { (seat.new.table_id ≡ seat.old.table_id) × (seat.new.me ≡ (grown_at seat.new.me.0.steps seat.old.me.0 (made seat.old.me.0.terms note.now.caller word result.0 note.now.op result.1), seat.old.me.1)) }
     ensures follows { Follows seat.old.me.0.mine (made seat.old.me.0.terms note.now.caller word result.0 note.now.op result.1) }
@@ -85,7 +85,7 @@ pub(crate) fn draw(
 ) -> (u32, u32)
     requires place { (seat.old.table_id ≡ shared.now.table_id) × (word < shared.now.table_id.words) × (word < length shared.now.key.first.items) }
     requires alone { IsAlone seat.old.me.0 note.now.caller }
-    requires terms { (seat.old.me.0.terms.role ≡ Draw) × (seat.old.me.0.terms.limit ≡ limit) × (limit + seat.old.me.0.terms.callers ≤ 4294967294) }
+    requires terms { (seat.old.me.0.terms.role ≡ Draw) × (seat.old.me.0.terms.limit ≡ limit) × (limit + seat.old.me.0.terms.callers ≤ MOST_NUMBERS) }
     requires unspent { has_spent seat.old.me.0.terms.role seat.old.me.0.terms.limit seat.old.me.0.mine ≡ false }
     ensures seat { (seat.new.table_id ≡ seat.old.table_id) × (seat.new.me ≡ (grown_at seat.new.me.0.steps seat.old.me.0 (made seat.old.me.0.terms note.now.caller word result.0 note.now.op result.1), seat.old.me.1)) }
     ensures follows { Follows seat.old.me.0.mine (made seat.old.me.0.terms note.now.caller word result.0 note.now.op result.1) }
@@ -103,7 +103,7 @@ pub(crate) fn draw(
 pub(crate) fn offer(shared: &Words, seat: &mut Place, word: u32, asked: u32, note: &Note) -> Served
     requires place { (seat.old.table_id ≡ shared.now.table_id) × (word < shared.now.table_id.words) × (word < length shared.now.key.first.items) }
     requires alone { IsAlone seat.old.me.0 note.now.caller }
-    requires terms { (seat.old.me.0.terms.role ≡ Serve) × (asked < seat.old.me.0.terms.limit + seat.old.me.0.terms.callers) × (seat.old.me.0.terms.limit + seat.old.me.0.terms.callers ≤ 4294967294) }
+    requires terms { (seat.old.me.0.terms.role ≡ Serve) × (asked < seat.old.me.0.terms.limit + seat.old.me.0.terms.callers) × (seat.old.me.0.terms.limit + seat.old.me.0.terms.callers ≤ MOST_NUMBERS) }
     ensures seat { seat.new.table_id ≡ seat.old.table_id }
     ensures done { IfDone result (λ old. (seat.new.me ≡ (grown_at seat.new.me.0.steps seat.old.me.0 (made seat.old.me.0.terms note.now.caller word asked note.now.op old), seat.old.me.1)) × Follows seat.old.me.0.mine (made seat.old.me.0.terms note.now.caller word asked note.now.op old) × (seat.old.me.0.steps < seat.new.me.0.steps)) }
     ensures not_yet { IfNotYet result (λ seen. (seen ≢ asked) × ((found : ℕ) × (seen ≡ number_of found) × (seat.old.me.0.steps < seat.new.me.0.steps) × (seat.new.me ≡ (looked_at seat.new.me.0.steps seat.old.me.0 word found, seat.old.me.1)))) }

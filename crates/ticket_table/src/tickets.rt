@@ -15,7 +15,7 @@ use crate::served::Served;
 use crate::steps::{draw, offer};
 use atomic_table::Table;
 use bounded_list::NoMemory;
-use rv_execute::{Op, Taken};
+use rv_execute::{MOST_NUMBERS, Op, Taken};
 use std::alloc::Global;
 use std::marker::Model;
 
@@ -49,7 +49,7 @@ impl TicketTable {
         role: Role,
     ) -> Result<(TicketTable, Vec<Pass>), NoMemory>
         requires size { (0 < length payloads.now) × (0 < callers) }
-        requires room { limit + callers ≤ 4294967294 }
+        requires room { limit + callers ≤ MOST_NUMBERS }
         ensures basis { IfOk result (λ made. made.0.basis ≡ record { terms = record { role = role; limit = limit; callers = callers }; first = payloads.now }) }
         ensures passes { IfOk result (λ made. AreFresh made.0 made.1.items) }
     {
