@@ -34,6 +34,13 @@ module _ {T : Type 0} where
   abbrev pub seen_by : RingTaker T → List T
   seen_by taker = taker.seat.me.0.seen
 
+  -- how often the sender, or the taker, has looked at the ring
+  abbrev pub sender_looks : RingSender T → ℕ
+  sender_looks sender = sender.seat.me.0.looks
+
+  abbrev pub taker_looks : RingTaker T → ℕ
+  taker_looks taker = taker.seat.me.0.looks
+
   -- what is left, oldest first
   abbrev pub left_in : RingLeft T → List T
   left_in left = drop (length left.seat.me.0.taken) left.seat.me.0.sent
@@ -51,9 +58,8 @@ module _ {T : Type 0} where
 
   -- the sender looked once since, and of what it had sent all but as many as the bound had been taken: the ring held those
   abbrev pub WasFull : Ring T → RingSender T → RingSender T → Type 0
-  WasFull ring old new =
-      (new.seat.me.0.looks ≡ old.seat.me.0.looks + 1) × (length (sent_by new) ≡ gone_by new + bound_of ring)
+  WasFull ring old new = (sender_looks new ≡ sender_looks old + 1) × (length (sent_by new) ≡ gone_by new + bound_of ring)
 
   -- the taker looked once since, and what it had taken was all that had been sent: the ring held none
   abbrev pub WasEmpty : Ring T → RingTaker T → RingTaker T → Type 0
-  WasEmpty ring old new = (new.seat.me.0.looks ≡ old.seat.me.0.looks + 1) × (seen_by new ≡ taken_by new)
+  WasEmpty ring old new = (taker_looks new ≡ taker_looks old + 1) × (seen_by new ≡ taken_by new)

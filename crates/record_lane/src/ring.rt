@@ -25,7 +25,7 @@ pub struct Ring<T: Item> {
 impl<T: Item> Ring<T> {
     ghost use Rattle.std.specs.Prelude.{◌^◌, ◌<◌, ◌≤◌, ◌+◌, [], ◌∷◌, ◌++◌, length, IfOk};
     ghost use Rattle.record_lane.specs.Histories.{IsPrefix, OnSent, IfFull, IfItem, OnEmpty};
-    ghost use Rattle.record_lane.specs.Rings.{bound_of, word_count_of, top_of, sent_by, gone_by, taken_by, seen_by, left_in, IsSenderOf, IsTakerOf, WasFull, WasEmpty};
+    ghost use Rattle.record_lane.specs.Rings.{bound_of, word_count_of, top_of, sent_by, gone_by, taken_by, seen_by, sender_looks, taker_looks, left_in, IsSenderOf, IsTakerOf, WasFull, WasEmpty};
 
     /// An empty ring for items that are sound for `words` and `top`, with its two tokens. `NoMemory` where there is none to be had.
     pub fn create(
@@ -69,6 +69,7 @@ impl<T: Item> Ring<T> {
         ensures room { OnSent result (length (sent_by sender.new) ≤ gone_by sender.new + bound_of self.now) }
         ensures full { IfFull result (λ back. (back ≡ item) × (sent_by sender.new ≡ sent_by sender.old)) }
         ensures cause { IfFull result (λ _. WasFull self.now sender.old sender.new) }
+        ensures look { sender_looks sender.new ≡ sender_looks sender.old + 1 }
     {
         match send_at(
             &self.table.shared,
@@ -97,6 +98,7 @@ impl<T: Item> Ring<T> {
         ensures order { IfItem result (λ _. IsPrefix (taken_by taker.new) (seen_by taker.new)) }
         ensures empty { OnEmpty result (taken_by taker.new ≡ taken_by taker.old) }
         ensures cause { OnEmpty result (WasEmpty self.now taker.old taker.new) }
+        ensures look { taker_looks taker.new ≡ taker_looks taker.old + 1 }
     {
         match take_at(
             &self.table.shared,
