@@ -8,7 +8,7 @@ use Rattle.clap.specs.declared.builder.action.ArgAction.TheVariants.{Set}
 use Rattle.clap.specs.declared.builder.value_parser.Reading.TheVariants as reading
 use Rattle.clap.specs.declared.builder.value_parser.ValueParser.TheVariants as parser
 use Rattle.clap.specs.declared.parser.matches.ValueSource.TheVariants.{CommandLine}
-use Rattle.command_options.specs.Given.{Known, Text, Given}
+use Rattle.command_options.specs.Given.{Known, Text, GivenOption}
 use Rattle.command_options.proofs.Scan.{State, settled, waiting, pending}
 
 -- ---- the command as the parser builds it
@@ -39,7 +39,7 @@ app_with rules = record { top = shape_with rules; subs = [] }
 
 -- ---- its matches
 
-abbrev pub row_for : Given → Row
+abbrev pub row_for : GivenOption → Row
 row_for given = record {
   id = given.name;
   values = given.value ∷ [];
@@ -48,7 +48,7 @@ row_for given = record {
   reading = reading.AsWritten;
 }
 
-abbrev pub rows_for : List Given → List Row
+abbrev pub rows_for : List GivenOption → List Row
 rows_for given = map row_for given
 
 -- ---- where it stands
@@ -91,6 +91,6 @@ abbrev pub rows_from : List Rule → Walk → List Text → List Row
 rows_from rules walk words = finished rules (walk_over rules walk words).held
 
 -- no options, where a fault comes; else no fault, and the rows of the options
-abbrev pub Agrees : Option (List Given) → Kinds → List Row → Type 0
+abbrev pub Agrees : Option (List GivenOption) → Kinds → List Row → Type 0
 Agrees None fault rows = fault ≡ [] → ⊥
 Agrees (Some given) fault rows = (fault ≡ []) × (rows ≡ rows_for given)

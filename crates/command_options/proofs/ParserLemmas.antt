@@ -14,7 +14,7 @@ use Rattle.clap.specs.Faults.{fault_of, is_simple_and_free, turn_fault, walk_fau
 use Rattle.clap.specs.declared.builder.value_parser.Reading.TheVariants as reading
 use Rattle.clap.specs.declared.error.kind.ErrorKind.TheVariants as kind
 use Rattle.clap.specs.declared.parser.matches.ValueSource.TheVariants.{CommandLine}
-use Rattle.command_options.specs.Given.{Known, Text, Given, is_listed, is_given, has_required, has_names, IsRead}
+use Rattle.command_options.specs.Given.{Known, Text, GivenOption, is_listed, is_given, has_required, has_names, IsRead}
 use Rattle.command_options.specs.Words.{app_for, have_values, is_tame, options_found}
 use Rattle.command_options.proofs.Scan.{Token, token, bad, plain, flag, whole, State, settled, waiting, pending, with_option, settle, Next, on_whole, on_flag, turn, finish, run}
 use Rattle.command_options.proofs.ScanLemmas.{IsSpelled, token_is_spelled, read_by_run, run_by_read, tame_is_not_bad, run_untame}
@@ -56,7 +56,7 @@ module _ (table : List Known) where
   IsKnown (waiting name) = is_listed table name ≡ true
   IsKnown (pending name value) = is_listed table name ≡ true
 
-  settle_agrees : (state : State) (before : List Given) → IsKnown state
+  settle_agrees : (state : State) (before : List GivenOption) → IsKnown state
       → Agrees (settle state before) (first_fault table state (rows_for before)) (rows_after table state (rows_for before))
   settle_agrees settled before known = (refl, refl)
   settle_agrees (waiting name) before known =
@@ -77,7 +77,7 @@ module _ (table : List Known) where
 
   -- ---- the end
 
-  finish_agrees : (o : Option (List Given)) (fault : Kinds) (rows : List Row) → Agrees o fault rows
+  finish_agrees : (o : Option (List GivenOption)) (fault : Kinds) (rows : List Row) → Agrees o fault rows
       → Agrees (option_and_then (finish table) o)
       (or_else fault (or_else (defaults_fault rows rules) (check_fault (shape_with rules) (fold with_default rows rules) false))) (fold with_default rows rules)
   finish_agrees None fault rows a = stops fault _ a
@@ -93,32 +93,32 @@ module _ (table : List Known) where
 
   -- ---- one word more
 
-  abbrev AgreesAt : Option (List Given) → Walk → List Text → Type 0
+  abbrev AgreesAt : Option (List GivenOption) → Walk → List Text → Type 0
   AgreesAt o walk words = Agrees o (fault_from rules walk words) (rows_from rules walk words)
 
   abbrev After : List Text → Type 0
-  After words = (state : State) (before : List Given) → IsKnown state → AgreesAt (run table state before words) (walk_at state (rows_for before)) words
+  After words = (state : State) (before : List GivenOption) → IsKnown state → AgreesAt (run table state before words) (walk_at state (rows_for before)) words
 
-  goes_on : (o : Option (List Given)) (fault : Kinds) (walk next : Walk) (words : List Text) → fault ≡ [] → walk ≡ next → AgreesAt o next words
+  goes_on : (o : Option (List GivenOption)) (fault : Kinds) (walk next : Walk) (words : List Text) → fault ≡ [] → walk ≡ next → AgreesAt o next words
       → Agrees o (or_else fault (fault_from rules walk words)) (rows_from rules walk words)
   goes_on o fault walk next words none same a = rw (none, same) a
 
-  flag_unlisted : (o : Option (List Given)) (name : Text) (next : Next) → is_listed table name ≡ false → option_and_then (on_flag table name next) o ≡ None
+  flag_unlisted : (o : Option (List GivenOption)) (name : Text) (next : Next) → is_listed table name ≡ false → option_and_then (on_flag table name next) o ≡ None
   flag_unlisted None name next unlisted = refl
   flag_unlisted (Some given) name next unlisted = rw unlisted refl
 
-  whole_unlisted : (o : Option (List Given)) (name value : Text) (next : Next) → is_listed table name ≡ false → option_and_then (on_whole table name value next) o ≡ None
+  whole_unlisted : (o : Option (List GivenOption)) (name value : Text) (next : Next) → is_listed table name ≡ false → option_and_then (on_whole table name value next) o ≡ None
   whole_unlisted None name value next unlisted = refl
   whole_unlisted (Some given) name value next unlisted = rw unlisted refl
 
-  flag_agrees : (o : Option (List Given)) (first fault : Kinds) (rows : List Row) (walk : Walk) (name : Text) (rest : List Text) → is_listed table name ≡ true → After rest
+  flag_agrees : (o : Option (List GivenOption)) (first fault : Kinds) (rows : List Row) (walk : Walk) (name : Text) (rest : List Text) → is_listed table name ≡ true → After rest
       → fault ≡ or_else first [] → walk ≡ walk_at (waiting name) rows → Agrees o first rows
       → Agrees (option_and_then (on_flag table name (λ s given. run table s given rest)) o) (or_else fault (fault_from rules walk rest)) (rows_from rules walk rest)
   flag_agrees None first fault rows walk name rest listed more is at a = stops fault _ (λ h. a (sym (is ∙ or_else_none first) ∙ h))
   flag_agrees (Some given) first fault rows walk name rest listed more is at a =
       rw listed (goes_on _ fault walk _ rest (is ∙ or_else_none first ∙ a.0) (at ∙ ap (walk_at (waiting name)) a.1) (more (waiting name) given listed))
 
-  whole_agrees : (o : Option (List Given)) (first fault : Kinds) (rows : List Row) (walk : Walk) (name value : Text) (rest : List Text) → is_listed table name ≡ true → After rest
+  whole_agrees : (o : Option (List GivenOption)) (first fault : Kinds) (rows : List Row) (walk : Walk) (name value : Text) (rest : List Text) → is_listed table name ≡ true → After rest
       → fault ≡ or_else (or_else first (or_else (cond (has_row name rows && true) (kind.ArgumentConflict ∷ []) []) [])) []
       → walk ≡ walk_at settled (with_values name reading.AsWritten CommandLine (value ∷ []) (without name rows)) → Agrees o first rows
       → Agrees (option_and_then (on_whole table name value (λ s given. run table s given rest)) o) (or_else fault (fault_from rules walk rest)) (rows_from rules walk rest)
@@ -137,7 +137,7 @@ module _ (table : List Known) where
           (at ∙ ap (walk_at settled) (rw a.1 (used_once given name value new)))
           (more settled (with_option given name value) tt)
 
-  word_agrees : (word : Text) (rest : List Text) → After rest → (k : Token) → IsSpelled word k → (k ≡ bad → ⊥) → (state : State) (before : List Given) → IsKnown state
+  word_agrees : (word : Text) (rest : List Text) → After rest → (k : Token) → IsSpelled word k → (k ≡ bad → ⊥) → (state : State) (before : List GivenOption) → IsKnown state
       → Agrees (turn table state before word k (λ s given. run table s given rest))
       (or_else (turn_fault (shape_with rules) [] (walk_at state (rows_for before)) word) (fault_from rules (walked rules [] (walk_at state (rows_for before)) word) rest))
       (rows_from rules (walked rules [] (walk_at state (rows_for before)) word) rest)
@@ -205,7 +205,7 @@ module _ (table : List Known) (words : List Text) where
       found : rows_of (found_of m) ≡ matches_of (app_for table) words
       found = (rows (ap is_simple same ∙ is_simple_app table)).0 ∙ ap (λ (a : App). matches_of a words) same
 
-      go : (o : Option (List Given)) → run table settled [] words ≡ o → Agrees o (fault_of (app_for table) words) (matches_of (app_for table) words)
+      go : (o : Option (List GivenOption)) → run table settled [] words ≡ o → Agrees o (fault_of (app_for table) words) (matches_of (app_for table) words)
           → IsRead table words (options_found (found_of m)) × (have_values (found_of m) ≡ true)
       go None is a = absurd (a no_fault)
       go (Some given) is a =
@@ -217,17 +217,17 @@ module _ (table : List Known) (words : List Text) where
   -- an error that is not want of memory comes only where they give none
   pub error_refuses : (app : App) (e : Error) → app ≡ app_for table → has_names table ≡ true → list_all is_tame words ≡ true
       → (is_simple_and_free app ≡ true → HasKind (fault_of app words) e) → (kind_of e ≡ kind.OutOfMemory → ⊥)
-      → (given : List Given) → IsRead table words given → ⊥
+      → (given : List GivenOption) → IsRead table words given → ⊥
   error_refuses app e same good tame kinds other given read =
       let a : Agrees (Some given) (fault_of (app_for table) words) (matches_of (app_for table) words) =
-      subst (λ (o : Option (List Given)). Agrees o (fault_of (app_for table) words) (matches_of (app_for table) words)) (run_by_read table words given good read) (parse_agrees table words tame) in
+      subst (λ (o : Option (List GivenOption)). Agrees o (fault_of (app_for table) words) (matches_of (app_for table) words)) (run_by_read table words given good read) (parse_agrees table words tame) in
       elim (subst (λ (x : App). HasKind (fault_of x words) e) same (kinds (ap is_simple_and_free same ∙ is_known table))) [
         | inl memory ↦ other memory
         | inr among ↦ subst (IsAmong (kind_of e)) a.0 among
       ]
 
   -- and a word that may not stand there is among none
-  pub untame_refuses : has_names table ≡ true → list_all is_tame words ≡ false → (given : List Given) → IsRead table words given → ⊥
+  pub untame_refuses : has_names table ≡ true → list_all is_tame words ≡ false → (given : List GivenOption) → IsRead table words given → ⊥
   untame_refuses good untame given read =
       let same : None ≡ Some given = sym (run_untame table settled [] words untame) ∙ run_by_read table words given good read in
       cc

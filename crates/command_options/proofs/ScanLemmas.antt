@@ -7,14 +7,14 @@ use Rattle.std.specs.List.{list_all}
 use Rattle.std.specs.Option.{option_map_or}
 use Rattle.std.proofs.lemmas.Bool.{and_cases, and_parts, and_from, not-true, or_cases}
 use Rattle.clap.specs.Lexer.{long_of}
-use Rattle.command_options.specs.Given.{Known, Text, Given, Spells, IsRead, one_word, name_word, is_value, is_listed, is_given, are_new, has_required, has_names, value_given}
+use Rattle.command_options.specs.Given.{Known, Text, GivenOption, Spells, IsRead, one_word, name_word, is_value, is_listed, is_given, are_new, has_required, has_names, value_given}
 use Rattle.command_options.specs.Laws.{ReadOnce, RequiredGiven, is_required}
 use Rattle.command_options.specs.Words.{has_good_value, is_tame}
 use Rattle.command_options.proofs.Scan.{Token, token, token_of_long, token_of_value, bad, plain, flag, whole, State, settled, waiting, pending, option_of, with_option, settle, Next, on_whole, on_flag, turn, finish, run}
 use Rattle.command_options.proofs.TokenLemmas.{IsFlag, IsWhole, shape_of_word, listed_is_name, token_of_value_word, token_of_name_word, token_of_one_word}
 
 -- an option whose name is new is as good as settled
-pub pending_is_settled : (table : List Known) (name value : Text) (before : List Given) (words : List Text) → is_given before name ≡ false
+pub pending_is_settled : (table : List Known) (name value : Text) (before : List GivenOption) (words : List Text) → is_given before name ≡ false
     → run table (pending name value) before words ≡ run table settled (with_option before name value) words
 pending_is_settled table name value before [] new = rw new refl
 pending_is_settled table name value before (word ∷ words) new = go (token word)
@@ -29,7 +29,7 @@ pending_is_settled table name value before (word ∷ words) new = go (token word
     go (whole n v) = rw new refl
 
 -- an option whose name is not new is never read
-pub pending_fails : (table : List Known) (name value : Text) (before : List Given) (words : List Text) → is_given before name ≡ true
+pub pending_fails : (table : List Known) (name value : Text) (before : List GivenOption) (words : List Text) → is_given before name ≡ true
     → run table (pending name value) before words ≡ None
 pending_fails table name value before [] old = rw old refl
 pending_fails table name value before (word ∷ words) old = go (token word)
@@ -43,7 +43,7 @@ pending_fails table name value before (word ∷ words) old = go (token word)
 -- ---- from the definition
 
 module _ (table : List Known) (good : has_names table ≡ true) where
-  pub run_reads : (given before : List Given) (words : List Text) → Spells given words → list_all (λ option. is_listed table option.name) given ≡ true
+  pub run_reads : (given before : List GivenOption) (words : List Text) → Spells given words → list_all (λ option. is_listed table option.name) given ≡ true
       → list_all (λ option. is_value option.value) given ≡ true → are_new before given ≡ true → has_required table (before ++ given) ≡ true
       → run table settled before words ≡ Some (before ++ given)
   run_reads [] before words spelled listed values new required =
@@ -57,7 +57,7 @@ module _ (table : List Known) (good : has_names table ≡ true) where
       let name = listed_is_name table option.name good l.0 in
       let fresh = not-true (is_given before option.name) n.0 in
       let all : (before ++ option ∷ []) ++ given ≡ before ++ (option ∷ given) = append_assoc before (option ∷ []) given in
-      let rest = run_reads given (before ++ option ∷ []) spelled.0 spelled.2 l.1 v.1 n.1 (rw all required) ∙ ap (λ (gs : List Given). Some gs) all in
+      let rest = run_reads given (before ++ option ∷ []) spelled.0 spelled.2 l.1 v.1 n.1 (rw all required) ∙ ap (λ (gs : List GivenOption). Some gs) all in
       elim spelled.1 [
         | inl one ↦ rw (one, token_of_one_word option name v.0, l.0, fresh) rest
         | inr two ↦ rw (two, token_of_name_word option name, l.0, token_of_value_word option.value v.0) (pending_is_settled table option.name option.value before spelled.0 fresh ∙ rest)
@@ -66,8 +66,8 @@ module _ (table : List Known) (good : has_names table ≡ true) where
 -- ---- to the definition
 
 -- how the options grow over words
-pub record Grows (table : List Known) (before : List Given) (words : List Text) (all : List Given) : Type 0 where
-  pub given : List Given
+pub record Grows (table : List Known) (before : List GivenOption) (words : List Text) (all : List GivenOption) : Type 0 where
+  pub given : List GivenOption
   pub whole : all ≡ before ++ given
   pub spelled : Spells given words
   pub listed : list_all (λ option. is_listed table option.name) given ≡ true
@@ -83,7 +83,7 @@ some_of_no : {X : Type 0} (b : Bool) (o : Option X) (x : X) → cond b None o �
 some_of_no true o x h = cc
 some_of_no false o x h = (refl, h)
 
-grows_end : (table : List Known) (before all : List Given) → finish table before ≡ Some all → Grows table before [] all
+grows_end : (table : List Known) (before all : List GivenOption) → finish table before ≡ Some all → Grows table before [] all
 grows_end table before all h =
     let parts = some_of_cond (has_required table before) (Some before) all h in
     let same : before ≡ all = cc in
@@ -94,10 +94,10 @@ grows_end table before all h =
       listed = refl;
       values = refl;
       once = refl;
-      required = subst (λ (g : List Given). has_required table g ≡ true) same parts.0;
+      required = subst (λ (g : List GivenOption). has_required table g ≡ true) same parts.0;
     }
 
-grows_more : (table : List Known) (before all : List Given) (name value : Text) (words rest : List Text)
+grows_more : (table : List Known) (before all : List GivenOption) (name value : Text) (words rest : List Text)
     → (words ≡ one_word (option_of name value) ∷ rest) ⊎ (words ≡ name_word (option_of name value) ∷ value ∷ rest)
     → is_listed table name ≡ true → is_value value ≡ true → is_given before name ≡ false
     → Grows table (with_option before name value) rest all → Grows table before words all
@@ -138,10 +138,10 @@ token_is_spelled word = go (is_value word) refl
 
 module _ (table : List Known) where
   abbrev After : List Text → Type 0
-  After words = (before all : List Given) → run table settled before words ≡ Some all → Grows table before words all
+  After words = (before all : List GivenOption) → run table settled before words ≡ Some all → Grows table before words all
 
   after_whole : (word name value : Text) (rest : List Text) → IsWhole word name value → is_value value ≡ true → After rest
-      → (before all : List Given) → on_whole table name value (λ s given. run table s given rest) before ≡ Some all → Grows table before (word ∷ rest) all
+      → (before all : List GivenOption) → on_whole table name value (λ s given. run table s given rest) before ≡ Some all → Grows table before (word ∷ rest) all
   after_whole word name value rest is good more before all h =
       let l = some_of_cond (is_listed table name) _ all h in
       let n = some_of_no (is_given before name) _ all l.1 in
@@ -149,7 +149,7 @@ module _ (table : List Known) where
 
   -- the value of an option
   after_name : (word name value : Text) (rest : List Text) → IsFlag word name → is_listed table name ≡ true → After rest → (k : Token) → IsSpelled value k
-      → (before all : List Given) → turn table (waiting name) before value k (λ s given. run table s given rest) ≡ Some all → Grows table before (word ∷ value ∷ rest) all
+      → (before all : List GivenOption) → turn table (waiting name) before value k (λ s given. run table s given rest) ≡ Some all → Grows table before (word ∷ value ∷ rest) all
   after_name word name value rest is listed more plain good before all h = go (is_given before name) refl
     where
       go : (b : Bool) → is_given before name ≡ b → Grows table before (word ∷ value ∷ rest) all
@@ -164,13 +164,13 @@ module _ (table : List Known) where
 
   after_flag : (word name : Text) (rest : List Text) → IsFlag word name → is_listed table name ≡ true
       → ((value : Text) (more : List Text) → rest ≡ value ∷ more → After more)
-      → (before all : List Given) → run table (waiting name) before rest ≡ Some all → Grows table before (word ∷ rest) all
+      → (before all : List GivenOption) → run table (waiting name) before rest ≡ Some all → Grows table before (word ∷ rest) all
   after_flag word name [] is listed more before all h = cc
   after_flag word name (value ∷ rest) is listed more before all h =
       after_name word name value rest is listed (more value rest refl) (token value) (token_is_spelled value) before all h
 
   after_word : (word : Text) (rest : List Text) → After rest → ((value : Text) (more : List Text) → rest ≡ value ∷ more → After more)
-      → (k : Token) → IsSpelled word k → (before all : List Given)
+      → (k : Token) → IsSpelled word k → (before all : List GivenOption)
       → turn table settled before word k (λ s given. run table s given rest) ≡ Some all → Grows table before (word ∷ rest) all
   after_word word rest next later bad is before all h = cc
   after_word word rest next later plain is before all h = cc
@@ -189,7 +189,7 @@ module _ (table : List Known) where
 
 -- ---- words that are not tame
 
-cond_none : (b : Bool) → ◌≡◌ {A = Option (List Given)} (cond b None None) None
+cond_none : (b : Bool) → ◌≡◌ {A = Option (List GivenOption)} (cond b None None) None
 cond_none true = refl
 cond_none false = refl
 
@@ -214,24 +214,24 @@ untame_tells false (Some p) untame = value_is_bad p.0 p.1 untame
 pub tame_is_not_bad : (word : Text) → is_tame word ≡ true → token word ≡ bad → ⊥
 tame_is_not_bad word tame is = tame_tells (is_value word) (long_of word) tame is
 
-turn_none : (table : List Known) (state : State) (before : List Given) (word : Text) (k : Token) (next : Next)
-    → ((s : State) (given : List Given) → next s given ≡ None) → turn table state before word k next ≡ None
+turn_none : (table : List Known) (state : State) (before : List GivenOption) (word : Text) (k : Token) (next : Next)
+    → ((s : State) (given : List GivenOption) → next s given ≡ None) → turn table state before word k next ≡ None
 turn_none table state before word bad next none = refl
 turn_none table settled before word plain next none = refl
 turn_none table (waiting name) before word plain next none = none (pending name word) before
 turn_none table (pending name value) before word plain next none = refl
 turn_none table state before word (flag name) next none = go (settle state before)
   where
-    go : (o : Option (List Given)) → option_and_then (on_flag table name next) o ≡ None
+    go : (o : Option (List GivenOption)) → option_and_then (on_flag table name next) o ≡ None
     go None = refl
     go (Some given) = rw (none (waiting name) given) (cond_none (is_listed table name))
 turn_none table state before word (whole name value) next none = go (settle state before)
   where
-    go : (o : Option (List Given)) → option_and_then (on_whole table name value next) o ≡ None
+    go : (o : Option (List GivenOption)) → option_and_then (on_whole table name value next) o ≡ None
     go None = refl
     go (Some given) = rw (none settled (with_option given name value), cond_none (is_given given name)) (cond_none (is_listed table name))
 
-pub run_untame : (table : List Known) (state : State) (before : List Given) (words : List Text) → list_all is_tame words ≡ false → run table state before words ≡ None
+pub run_untame : (table : List Known) (state : State) (before : List GivenOption) (words : List Text) → list_all is_tame words ≡ false → run table state before words ≡ None
 run_untame table state before [] untame = cc
 run_untame table state before (word ∷ rest) untame = elim (and_cases (is_tame word) (list_all is_tame rest) untame) [
   | inl here ↦ rw (untame_tells (is_value word) (long_of word) here) refl
@@ -240,7 +240,7 @@ run_untame table state before (word ∷ rest) untame = elim (and_cases (is_tame 
 
 -- ---- both
 
-pub read_by_run : (table : List Known) (words : List Text) (given : List Given) → run table settled [] words ≡ Some given → IsRead table words given
+pub read_by_run : (table : List Known) (words : List Text) (given : List GivenOption) → run table settled [] words ≡ Some given → IsRead table words given
 read_by_run table words given h =
     let g = run_grows table words [] given h in
     let same : given ≡ g.given = g.whole in
@@ -252,7 +252,7 @@ read_by_run table words given h =
       required = g.required;
     }
 
-pub run_by_read : (table : List Known) (words : List Text) (given : List Given) → has_names table ≡ true → IsRead table words given
+pub run_by_read : (table : List Known) (words : List Text) (given : List GivenOption) → has_names table ≡ true → IsRead table words given
     → run table settled [] words ≡ Some given
 run_by_read table words given good r = run_reads table good given [] words r.spelled r.listed r.values r.once r.required
 
@@ -263,16 +263,16 @@ read_once table words one other good r s =
 
 -- ---- values
 
-name_has_value : (given : List Given) (name : Text) → is_given given name ≡ true → IsSome (value_given given name)
+name_has_value : (given : List GivenOption) (name : Text) → is_given given name ≡ true → IsSome (value_given given name)
 name_has_value [] name h = cc
 name_has_value (option ∷ given) name h = go (bytes_eq option.name name) h (name_has_value given name)
   where
     go : (b : Bool) → (b || is_given given name) ≡ true → (is_given given name ≡ true → IsSome (value_given given name))
-        → IsSome (option_map (λ (o : Given). o.value) (cond b (Some option) (find (λ (o : Given). bytes_eq o.name name) given)))
+        → IsSome (option_map (λ (o : GivenOption). o.value) (cond b (Some option) (find (λ (o : GivenOption). bytes_eq o.name name) given)))
     go true k more = refl
     go false k more = more k
 
-has_required_name : (table : List Known) (given : List Given) (name : Text) → has_required table given ≡ true → is_required table name ≡ true
+has_required_name : (table : List Known) (given : List GivenOption) (name : Text) → has_required table given ≡ true → is_required table name ≡ true
     → is_given given name ≡ true
 has_required_name [] given name has is = cc
 has_required_name (row ∷ table) given name has is =

@@ -15,7 +15,7 @@ use Rattle.clap.specs.Takes.{is_given as is_explicit_in}
 use Rattle.clap.specs.Faults.{fault_of, built_fault, level_fault, is_simple_and_free, entered_fault, defaults_fault}
 use Rattle.clap.specs.Simple.{entered, matches_of}
 use Rattle.command_options.specs.declared.options.OptionRow.{OptionRow}
-use Rattle.command_options.specs.Given.{Known, known, known_in, Text, Given, is_listed, is_given, has_required}
+use Rattle.command_options.specs.Given.{Known, known, known_in, Text, GivenOption, is_listed, is_given, has_required}
 use Rattle.command_options.specs.Words.{rule_for, app_for}
 use Rattle.command_options.proofs.Parse.{filled_rule, rules_for, shape_with, app_with, row_for, rows_for}
 
@@ -133,7 +133,7 @@ none_added rows [] = refl
 none_added rows (row ∷ table) =
     ap (λ (r : List Row). fold with_default r (rules_for table)) (cond_same (has_row row.name rows) rows) ∙ none_added rows table
 
-pub is_in_rows : (given : List Given) (name : Text) → is_explicit_in name (rows_for given) ≡ is_given given name
+pub is_in_rows : (given : List GivenOption) (name : Text) → is_explicit_in name (rows_for given) ≡ is_given given name
 is_in_rows [] name = refl
 is_in_rows (option ∷ given) name =
     elim (bytes_eq option.name name)
@@ -145,7 +145,7 @@ lacks_one true true rest = refl
 lacks_one true false rest = refl
 lacks_one false given rest = refl
 
-pub lacks_required : (table : List Known) (given : List Given)
+pub lacks_required : (table : List Known) (given : List GivenOption)
     → list_any (λ (a : Rule). a.required && not (is_explicit_in a.id (rows_for given))) (rules_for table) ≡ not (has_required table given)
 lacks_required [] given = refl
 lacks_required (row ∷ table) given =

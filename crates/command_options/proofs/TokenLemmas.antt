@@ -9,7 +9,7 @@ use Rattle.std.proofs.lemmas.Slice.Eq.{bytes_eq-Decides}
 use Rattle.clap.specs.Lexer.{long_of, long_of_rest, strip_byte, name_and_value}
 use Rattle.clap.proofs.CutLemmas.{Lacks}
 use Rattle.clap.proofs.LexerLemmas.{name_and_value-at, name_and_value-without}
-use Rattle.command_options.specs.Given.{Known, Text, Given, one_word, name_word, is_name, is_value, is_listed, has_names}
+use Rattle.command_options.specs.Given.{Known, Text, GivenOption, one_word, name_word, is_name, is_value, is_listed, has_names}
 use Rattle.command_options.specs.Words.{has_good_value}
 use Rattle.command_options.proofs.Scan.{token, token_of_long, token_of_value, plain, flag, whole}
 
@@ -40,14 +40,14 @@ long_of_some b rest p h = ap (λ q. Some q) h
 pub token_of_value_word : (word : Text) → is_value word ≡ true → token word ≡ plain
 token_of_value_word word h = rw h refl
 
-pub token_of_name_word : (option : Given) → is_name option.name ≡ true → token (name_word option) ≡ flag option.name
+pub token_of_name_word : (option : GivenOption) → is_name option.name ≡ true → token (name_word option) ≡ flag option.name
 token_of_name_word option h = go option.name h
   where
     go : (name : Text) → is_name name ≡ true → token_of_long (long_of_rest name) ≡ flag name
     go [] g = cc
     go (b ∷ rest) g = ap token_of_long (long_of_some b rest _ (name_and_value-without (b ∷ rest) (name_lacks (b ∷ rest) g)))
 
-pub token_of_one_word : (option : Given) → is_name option.name ≡ true → is_value option.value ≡ true → token (one_word option) ≡ whole option.name option.value
+pub token_of_one_word : (option : GivenOption) → is_name option.name ≡ true → is_value option.value ≡ true → token (one_word option) ≡ whole option.name option.value
 token_of_one_word option h good = go option.name h
   where
     value_token : (name : Text) → token_of_value name (Some option.value) ≡ whole name option.value

@@ -43,20 +43,20 @@ is_value (byte ∷ rest) = not (byte == 45)
 
 -- ---- options that are given
 
-pub record Given : Type 0 where
+pub record GivenOption : Type 0 where
   pub name : Text
   pub value : Text
 
 -- `--name=value`
-abbrev pub one_word : Given → Text
+abbrev pub one_word : GivenOption → Text
 one_word option = 45 ∷ 45 ∷ (option.name ++ 61 ∷ option.value)
 
 -- `--name`, which stands before the value
-abbrev pub name_word : Given → Text
+abbrev pub name_word : GivenOption → Text
 name_word option = 45 ∷ 45 ∷ option.name
 
 -- the words are those of the options in their order, each as one word or as two
-abbrev pub Spells : List Given → List Text → Type 0
+abbrev pub Spells : List GivenOption → List Text → Type 0
 Spells [] words = words ≡ []
 Spells (option ∷ given) words = (rest : List Text)
     × ((words ≡ one_word option ∷ rest) ⊎ (words ≡ name_word option ∷ option.value ∷ rest)) × Spells given rest
@@ -64,20 +64,20 @@ Spells (option ∷ given) words = (rest : List Text)
 abbrev pub is_listed : List Known → Text → Bool
 is_listed table name = list_any (λ row. bytes_eq row.name name) table
 
-abbrev pub is_given : List Given → Text → Bool
+abbrev pub is_given : List GivenOption → Text → Bool
 is_given given name = list_any (λ option. bytes_eq option.name name) given
 
 -- no name stands twice, among the options and those before them
-abbrev pub are_new : List Given → List Given → Bool
+abbrev pub are_new : List GivenOption → List GivenOption → Bool
 are_new before [] = true
 are_new before (option ∷ given) = not (is_given before option.name) && are_new (before ++ option ∷ []) given
 
 -- each option that the table requires is given
-abbrev pub has_required : List Known → List Given → Bool
+abbrev pub has_required : List Known → List GivenOption → Bool
 has_required table given = list_all (λ row. not row.required || is_given given row.name) table
 
 -- the words give these options, under the table
-pub record IsRead (table : List Known) (words : List Text) (given : List Given) : Type 0 where
+pub record IsRead (table : List Known) (words : List Text) (given : List GivenOption) : Type 0 where
   pub spelled : Spells given words
   pub listed : list_all (λ option. is_listed table option.name) given ≡ true
   pub values : list_all (λ option. is_value option.value) given ≡ true
@@ -85,5 +85,5 @@ pub record IsRead (table : List Known) (words : List Text) (given : List Given) 
   pub required : has_required table given ≡ true
 
 -- the value of a name
-abbrev pub value_given : List Given → Text → Option Text
+abbrev pub value_given : List GivenOption → Text → Option Text
 value_given given name = option_map (λ option. option.value) (find (λ option. bytes_eq option.name name) given)

@@ -1,4 +1,4 @@
-pub mod Given
+pub mod GivenOption
 pub mod Numbers
 pub mod Laws
 pub mod Words

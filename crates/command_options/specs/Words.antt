@@ -6,7 +6,7 @@ use Rattle.clap.specs.Lexer.{long_of}
 use Rattle.clap.specs.Words.{App, Row, Rule, new_app, new_rule, rows_of}
 use Rattle.clap.specs.declared.parser.matches.Found.{Found}
 use Rattle.clap.specs.declared.builder.action.ArgAction.TheVariants.{Set}
-use Rattle.command_options.specs.Given.{Known, Text, Given, is_value}
+use Rattle.command_options.specs.Given.{Known, Text, GivenOption, is_value}
 
 -- a value that a word has after its `=` may stand there
 abbrev pub has_good_value : Option (Text × Option Text) → Bool
@@ -28,10 +28,10 @@ app_for table = record {
 }
 
 -- an option that was found
-abbrev pub option_found : Row → Given
+abbrev pub option_found : Row → GivenOption
 option_found row = record { name = row.id; value = unwrap_or (slice_get row.values 0) [] }
 
-abbrev pub options_found : Found → List Given
+abbrev pub options_found : Found → List GivenOption
 options_found found = map option_found (rows_of found)
 
 -- each option that was found has a value

@@ -1,6 +1,6 @@
 //! The options that the words of a command give.
 ghost use Rattle.std.specs.Prelude.{◌≡◌, List, map, string_bytes, IfOk, Err, true, option_map};
-ghost use Rattle.command_options.specs.Given.{Given, IsRead, has_names, known_in, value_given};
+ghost use Rattle.command_options.specs.Given.{GivenOption, IsRead, has_names, known_in, value_given};
 
 use crate::command::command;
 use crate::word::are_tame;
@@ -67,10 +67,10 @@ pub struct Options<'a> {
 impl<'a> Model for Options<'a> {
     ghost use Rattle.std.specs.Prelude.{◌≡◌, true, List};
     ghost use Rattle.clap.specs.Matches.{found_of};
-    ghost use Rattle.command_options.specs.Given.{Given};
+    ghost use Rattle.command_options.specs.Given.{GivenOption};
     ghost use Rattle.command_options.specs.Words.{have_values, options_found};
 
-    ghost Value = { List Given };
+    ghost Value = { List GivenOption };
 
     ghost view = { λ options. options_found (found_of options.matches) };
 
@@ -95,7 +95,7 @@ pub fn read_options<'a>(
     requires { has_names (known_in table.now) ≡ true }
     ensures read { IfOk result (IsRead (known_in table.now) (map string_bytes words.entry.now)) }
     ensures refused { result ≡ Err WordsFault.Other
-        → (given : List Given) → IsRead (known_in table.now) (map string_bytes words.entry.now) given → ⊥ }
+        → (given : List GivenOption) → IsRead (known_in table.now) (map string_bytes words.entry.now) given → ⊥ }
 {
     // The parser would take an empty value or a lone `-`, and end the options at `--`.
     if !are_tame(words) {

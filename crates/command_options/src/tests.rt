@@ -1,5 +1,5 @@
 ghost use Rattle.std.specs.Prelude.{◌≡◌, ◌∷◌, [], List, Some, Err, IfOk, codes, map, string_bytes};
-ghost use Rattle.command_options.specs.Given.{Given, IsRead, other_option, required_option, value_given};
+ghost use Rattle.command_options.specs.Given.{GivenOption, IsRead, other_option, required_option, value_given};
 
 use super::*;
 use std::alloc::{AllocError, Global};
@@ -54,10 +54,10 @@ fn image_of<'a>(alloc: Global, words: &'a [String]) -> Result<&'a str, WordsFaul
         ∷ other_option (codes "policy") ∷ other_option (codes "cores") ∷ other_option (codes "lane")
         ∷ other_option (codes "quantum") ∷ other_option (codes "budget") ∷ other_option (codes "limit")
         ∷ other_option (codes "stack") ∷ other_option (codes "heap") ∷ [] in
-        IfOk result (λ image. (given : List Given) × IsRead table (map string_bytes words.entry.now) given
+        IfOk result (λ image. (given : List GivenOption) × IsRead table (map string_bytes words.entry.now) given
         × (value_given given (codes "image") ≡ Some image.now))
         × (result ≡ Err WordsFault.Other
-        → (given : List Given) → IsRead table (map string_bytes words.entry.now) given → ⊥) }
+        → (given : List GivenOption) → IsRead table (map string_bytes words.entry.now) given → ⊥) }
 {
     let options = read_options(alloc, &RUN, words)?;
     match options.value("image") {

@@ -9,7 +9,7 @@ use Rattle.order_core.specs.declared.shape.Shape.{Shape}
 use Rattle.order_core.specs.declared.shape.Shape.TheVariants.{Quiet, Touch, Meet, End}
 use Rattle.order_core.specs.declared.shape.Queued.{Queued}
 use Rattle.order_core.specs.declared.shape.CoreQueue.{CoreQueue}
-use Rattle.order_core.specs.Protocol.{is_free, committed, sent, resumed}
+use Rattle.order_core.specs.Protocol.{is_free, committed, sent, set_going}
 use Rattle.bounded_list.specs.Bounded.{Bounded}
 use Rattle.hart_actor.specs.declared.stage.Stage.{Stage}
 use Rattle.hart_actor.specs.declared.stage.Stage.TheVariants.{Going, Meeting, Closed}
@@ -80,7 +80,7 @@ pub record Sends (old new : Side) : Type 0 where
 -- the reply was taken up
 pub record Resumes (old new : Side) : Type 0 where
   pub waiting : (old.unsent ≡ None) × (is_meeting old.stage ≡ true)
-  pub core : (lane : Bounded Queued) → core_with lane false new ≡ resumed (core_with lane true old)
+  pub core : (lane : Bounded Queued) → core_with lane false new ≡ set_going (core_with lane true old)
   pub reply : Reply
   pub taken : new.taken ≡ old.taken ++ reply ∷ []
   pub sent : new.sent ≡ old.sent

@@ -9,7 +9,7 @@ use Rattle.order_core.specs.declared.shape.Move.TheVariants.{Send, Serve, Reply,
 use Rattle.order_core.specs.declared.shape.Queued.{Queued}
 use Rattle.order_core.specs.declared.shape.CoreQueue.{CoreQueue}
 use Rattle.order_core.specs.WordBelow.{IsWordBelow}
-use Rattle.order_core.specs.Protocol.{no_core, is_free, can_send, first_of, can_serve, can_reply, committed, sent, without_first, replied, resumed, Protocol, number_of, counted, served_after, can_commit, can_act, moves_of, moves_below, some_move}
+use Rattle.order_core.specs.Protocol.{no_core, is_free, can_send, first_of, can_serve, can_reply, committed, sent, without_first, replied, set_going, Protocol, number_of, counted, served_after, can_commit, can_act, moves_of, moves_below, some_move}
 use Rattle.order_core.specs.Reachable.{IsProtocol}
 use Rattle.order_core.proofs.Queue.{there}
 use Rattle.order_core.proofs.Steps.{is_first, word_below}
@@ -53,10 +53,10 @@ module _ (cores : List CoreQueue) (drawn served : List ℕ) (v : Protocol) (view
       let P : CoreQueue → Type 0 = λ k. IsProtocol (record { cores = set cores core k; drawn = drawn; served = served }) in
       subst P (sym (made ∙ ap replied (here can_reply refl (enabled (Reply core) e)))) (protocol_act (record { cores = cores; drawn = drawn; served = served }) (Reply core) p (enabled (Reply core) e))
 
-  pub made_resume : (after : CoreQueue) → IsProtocol (record { cores = cores; drawn = drawn; served = served }) → can_act v (Resume core) ≡ true → after ≡ resumed read → IsProtocol (record { cores = set cores core after; drawn = drawn; served = served })
+  pub made_resume : (after : CoreQueue) → IsProtocol (record { cores = cores; drawn = drawn; served = served }) → can_act v (Resume core) ≡ true → after ≡ set_going read → IsProtocol (record { cores = set cores core after; drawn = drawn; served = served })
   made_resume after p e made =
       let P : CoreQueue → Type 0 = λ k. IsProtocol (record { cores = set cores core k; drawn = drawn; served = served }) in
-      subst P (sym (made ∙ ap resumed (here (λ (k : CoreQueue). k.reply) refl (enabled (Resume core) e)))) (protocol_act (record { cores = cores; drawn = drawn; served = served }) (Resume core) p (enabled (Resume core) e))
+      subst P (sym (made ∙ ap set_going (here (λ (k : CoreQueue). k.reply) refl (enabled (Resume core) e)))) (protocol_act (record { cores = cores; drawn = drawn; served = served }) (Resume core) p (enabled (Resume core) e))
 
   pub made_serve : (after : CoreQueue) (counts : List ℕ) (queued : Queued) → IsProtocol (record { cores = cores; drawn = drawn; served = served }) → can_act v (Serve core) ≡ true → first_of read ≡ Some queued → after ≡ without_first read → counts ≡ counted served queued.shape
       → IsProtocol (record { cores = set cores core after; drawn = drawn; served = counts })

@@ -11,7 +11,7 @@ use Rattle.order_core.specs.Marked.{Marked}
 use Rattle.order_core.specs.CanonicalMerge.{may_touch, raised}
 use Rattle.order_core.specs.Places.{reached_at}
 use Rattle.order_core.specs.WordBelow.{IsWordBelow}
-use Rattle.order_core.specs.Protocol.{idle, no_core, is_free, can_send, first_of, shape_is_next, can_serve, is_meet, can_reply, marked_by, committed, sent, without_first, replied, resumed, Protocol, begin, core_at, number_of, counted, served_after, InRange, can_commit, commit, act}
+use Rattle.order_core.specs.Protocol.{idle, no_core, is_free, can_send, first_of, shape_is_next, can_serve, is_meet, can_reply, marked_by, committed, sent, without_first, replied, set_going, Protocol, begin, core_at, number_of, counted, served_after, InRange, can_commit, commit, act}
 use Rattle.order_core.specs.Reachable.{IsReachable, Begins, Commits, Acts}
 use Rattle.order_core.proofs.SetAtLemmas.{read_or_set}
 use Rattle.order_core.proofs.MarkedLemmas.{without}
@@ -114,7 +114,7 @@ module _ (bound : ℕ) (s : Protocol) (core : ℕ) (sound : Sound bound s) where
       let h = there (λ (k : CoreQueue). k.reply) s.cores core refl e in
       let met = (sound.1).met core in
       let one : one_if (core_at s core).reply ≡ 1 = ap one_if e in
-      (sound.0, sound_same bound s.cores s.drawn s.served sound.0 core (resumed (core_at s core)) h sound.1 refl (omega (arith, met, one, one_if_le (core_at s core).meeting)) refl)
+      (sound.0, sound_same bound s.cores s.drawn s.served sound.0 core (set_going (core_at s core)) h sound.1 refl (omega (arith, met, one, one_if_le (core_at s core).meeting)) refl)
 
   -- the record that is served, and what a served access shows of its word
   pub record IsFirst (test : Queued → Bool) : Type 0 where

@@ -67,8 +67,8 @@ without_first core = record core { lane = record core.lane { items = drop 1 (cor
 abbrev pub replied : CoreQueue → CoreQueue
 replied core = record core { lane = record core.lane { items = drop 1 (core.lane).items }; reply = true }
 
-abbrev pub resumed : CoreQueue → CoreQueue
-resumed core = record core { reply = false; meeting = false }
+abbrev pub set_going : CoreQueue → CoreQueue
+set_going core = record core { reply = false; meeting = false }
 
 -- ---- all cores
 
@@ -127,7 +127,7 @@ act s (Send core) = change s core (sent (core_at s core))
 act s (Serve core) =
     record s { cores = slice_set s.cores core (without_first (core_at s core)); served = served_after s.served (first_of (core_at s core)) }
 act s (Reply core) = change s core (replied (core_at s core))
-act s (Resume core) = change s core (resumed (core_at s core))
+act s (Resume core) = change s core (set_going (core_at s core))
 
 -- ---- the first move
 

@@ -58,7 +58,7 @@ impl CoreSet {
     }
 
     /// The cores of both sets.
-    pub(crate) fn joined(self, other: CoreSet) -> CoreSet
+    pub(crate) fn union(self, other: CoreSet) -> CoreSet
         ensures { (core : ℕ) → count_in result core ≡ max (count_in self core) (count_in other core) }
     {
         CoreSet {

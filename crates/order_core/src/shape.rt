@@ -1,5 +1,5 @@
 ghost use Rattle.std.specs.Prelude.{◌≡◌, ◌<◌, length, IfOk, IfSome, IsTrue};
-ghost use Rattle.order_core.specs.Protocol.{idle, can_send, can_serve, can_reply, first_of, committed, sent, without_first, replied, resumed, is_free};
+ghost use Rattle.order_core.specs.Protocol.{idle, can_send, can_serve, can_reply, first_of, committed, sent, without_first, replied, set_going, is_free};
 ghost use Rattle.order_core.specs.WordBelow.{IsWordBelow};
 
 use bounded_list::{BoundedList, NoMemory};
@@ -135,7 +135,7 @@ impl CoreQueue {
     }
 
     pub fn resume(&mut self)
-        ensures { self.new ≡ resumed self.old }
+        ensures { self.new ≡ set_going self.old }
     {
         self.reply = false;
         self.meeting = false;

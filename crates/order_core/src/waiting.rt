@@ -84,7 +84,7 @@ impl WaitingCores {
         ensures sets { vec_len self.new.sets ≡ 1024 }
     {
         let place = set_for(word, number);
-        self.awake = self.awake.joined(self.sets[place]);
+        self.awake = self.awake.union(self.sets[place]);
         self.sets[place] = CoreSet::none();
     }
 }

@@ -3,8 +3,8 @@ use Rattle.std.specs.Prelude.{◌≡◌, ℕ, ◌+◌, ◌-◌, ◌^◌, min, Li
 use Rattle.std.specs.Str.{bytes_eq}
 
 -- one more, for a u64 that stays at its greatest value
-abbrev pub counted : ℕ → ℕ
-counted n = min (n + 1) (2 ^ 64 - 1)
+abbrev pub risen : ℕ → ℕ
+risen n = min (n + 1) (2 ^ 64 - 1)
 
 -- a sink in memory: the bytes that it holds and how many it may hold, the numbers of the calls that fail, the number of the next call, and the count of faults
 pub record MemorySink : Type 0 where

@@ -5,7 +5,7 @@ ghost use Rattle.std.specs.Io.KnownBytes.{WriteAppends};
 ghost use Rattle.outside.specs.Faults.{HasCause};
 ghost use Rattle.outside.specs.Files.{HasFileCause, ReadsHeld};
 ghost use Rattle.outside.specs.Sinks.{TakesSome};
-ghost use Rattle.outside.specs.Memory.{held_by, RefusesReading, RefusesWrite, room_left, counted};
+ghost use Rattle.outside.specs.Memory.{held_by, RefusesReading, RefusesWrite, room_left, risen};
 
 use crate::files::{FileFault, Files};
 use crate::sink::{Sink, SinkFault};
@@ -162,9 +162,9 @@ impl Files for MemFiles {
 
         // Files in memory fail at the calls that are to fail, and at names that are not held.
         ensures refused { result ≡ Err FileFault.Failed ↔ RefusesReading self.old name.now }
-        ensures counted { result ≡ Err FileFault.Failed
-            → self.new.faults ≡ counted self.old.faults }
-        ensures numbered { self.new.calls ≡ counted self.old.calls }
+        ensures risen { result ≡ Err FileFault.Failed
+            → self.new.faults ≡ risen self.old.faults }
+        ensures numbered { self.new.calls ≡ risen self.old.calls }
         ensures same_files { self.new.files ≡ self.old.files }
         ensures same_failing { self.new.failing ≡ self.old.failing }
     {
@@ -304,9 +304,9 @@ impl Sink for MemSink {
         // A sink in memory takes as much as it has room for.
         ensures as_much { IfOk result (λ count. count ≡ min (length bytes.now) (room_left self.old)) }
         ensures refused { 0 < length bytes.now → (IsErr result ↔ RefusesWrite self.old) }
-        ensures counted { OnErr result (self.new.faults ≡ counted self.old.faults) }
+        ensures risen { OnErr result (self.new.faults ≡ risen self.old.faults) }
         ensures unnumbered { length bytes.now ≡ 0 → self.new.calls ≡ self.old.calls }
-        ensures numbered { 0 < length bytes.now → self.new.calls ≡ counted self.old.calls }
+        ensures numbered { 0 < length bytes.now → self.new.calls ≡ risen self.old.calls }
         ensures same_room { self.new.room ≡ self.old.room }
         ensures same_failing { self.new.failing ≡ self.old.failing }
     {

@@ -3,7 +3,7 @@ use Rattle.std.proofs.Common.{◌≡◌, ◌≢◌, ◌≤◌, ℕ, List, ◌∷
 use Rattle.std.specs.Prelude.{MatchOption, IfErr}
 use Rattle.std.specs.Option.{ok_or}
 use Rattle.std.proofs.lemmas.Fmt.{decimal_injective}
-use Rattle.command_options.specs.Given.{Known, Given, IsRead, has_names}
+use Rattle.command_options.specs.Given.{Known, GivenOption, IsRead, has_names}
 use Rattle.command_options.proofs.ScanLemmas.{read_once}
 use Rattle.run_cli.specs.Asked.{ImageAsked, SetupAsked, RunAsked, ReplayAsked, Asked, Run, Replay, Inspect}
 use Rattle.run_cli.specs.Words.{IsNumber, AskForImage, AskForSetup, AskForRun, AskForReplay, AreOptions, Says, Reads, ReadsOffline, run_table, replay_table, map_table}
@@ -18,7 +18,7 @@ one_number low high usual (Some text) a b small one other = decimal_injective a 
 one_text : (a b : List ℕ) → Some a ≡ Some b → a ≡ b
 one_text a b same = cc
 
-image_once : (given : List Given) (a b : ImageAsked) → AskForImage given a → AskForImage given b → a ≡ b
+image_once : (given : List GivenOption) (a b : ImageAsked) → AskForImage given a → AskForImage given b → a ≡ b
 image_once given a b one other =
     rw (
       one_text a.name b.name (sym one.name ∙ other.name),
@@ -27,7 +27,7 @@ image_once given a b one other =
       one_number _ _ _ _ a.heap b.heap (omega arith) one.heap other.heap,
     ) refl
 
-setup_once : (given : List Given) (o p : SetupAsked) → AskForSetup given o → AskForSetup given p → o ≡ p
+setup_once : (given : List GivenOption) (o p : SetupAsked) → AskForSetup given o → AskForSetup given p → o ≡ p
 setup_once given o p one other =
     rw (
       image_once given o.image p.image one.image other.image,
@@ -37,7 +37,7 @@ setup_once given o p one other =
       one_number _ _ _ _ o.limit p.limit (omega arith) one.limit other.limit,
     ) refl
 
-run_once : (given : List Given) (o p : RunAsked) → AskForRun given o → AskForRun given p → o ≡ p
+run_once : (given : List GivenOption) (o p : RunAsked) → AskForRun given o → AskForRun given p → o ≡ p
 run_once given o p one other =
     rw (
       setup_once given o.setup p.setup one.setup other.setup,
@@ -45,7 +45,7 @@ run_once given o p one other =
       one_number _ _ _ _ o.quantum p.quantum (omega arith) one.quantum other.quantum,
     ) refl
 
-replay_once : (given : List Given) (o p : ReplayAsked) → AskForReplay given o → AskForReplay given p → o ≡ p
+replay_once : (given : List GivenOption) (o p : ReplayAsked) → AskForReplay given o → AskForReplay given p → o ≡ p
 replay_once given o p one other =
     rw (
       one_text o.image p.image (sym one.image ∙ other.image),
@@ -61,20 +61,20 @@ first_of : (command other : List ℕ) (rest more : List (List ℕ)) → command 
 first_of command other rest more same = cc
 
 -- where options that are given ask for one thing alone, the words of a command say one thing alone
-said_once : {O : Type 0} (name : List ℕ) (table : List Known) (AskFor : List Given → O → Type 0) → has_names table ≡ true
-    → ((given : List Given) (a b : O) → AskFor given a → AskFor given b → a ≡ b)
+said_once : {O : Type 0} (name : List ℕ) (table : List Known) (AskFor : List GivenOption → O → Type 0) → has_names table ≡ true
+    → ((given : List GivenOption) (a b : O) → AskFor given a → AskFor given b → a ≡ b)
     → (words : List (List ℕ)) (a b : O) → Says name table AskFor words a → Says name table AskFor words b → a ≡ b
 said_once name table AskFor good once words a b one other =
     let rest : one.rest ≡ other.rest = same_rest name one.rest other.rest (sym one.words_are ∙ other.words_are) in
     let given : one.options.given ≡ other.options.given =
     read_once table other.rest one.options.given other.options.given good (subst (λ (words : List (List ℕ)). IsRead table words one.options.given) rest one.options.read) other.options.read in
-    once other.options.given a b (subst (λ (g : List Given). AskFor g a) given one.options.asks) other.options.asks
+    once other.options.given a b (subst (λ (g : List GivenOption). AskFor g a) given one.options.asks) other.options.asks
 
 -- the names of two commands have other lengths
 pub name_apart : (name other : List ℕ) → length name ≢ length other → (words rest more : List (List ℕ)) → words ≡ name ∷ rest → words ≡ other ∷ more → ⊥
 name_apart name other apart words rest more one two = apart (ap (λ (text : List ℕ). length text) (first_of name other rest more (sym one ∙ two)))
 
-said_apart : {O P : Type 0} (name other : List ℕ) (table known : List Known) (AskFor : List Given → O → Type 0) (Asks : List Given → P → Type 0) → length name ≢ length other
+said_apart : {O P : Type 0} (name other : List ℕ) (table known : List Known) (AskFor : List GivenOption → O → Type 0) (Asks : List GivenOption → P → Type 0) → length name ≢ length other
     → (words : List (List ℕ)) (a : O) (b : P) → Says name table AskFor words a → Says other known Asks words b → ⊥
 said_apart name other table known AskFor Asks apart words a b one two =
     name_apart name other apart words one.rest two.rest one.words_are two.words_are
@@ -91,10 +91,10 @@ reads_once words (Inspect a) (Run b) one other = absurd (said_apart (codes "insp
 reads_once words (Inspect a) (Replay b) one other = absurd (said_apart (codes "inspect") (codes "replay") _ _ AskForImage AskForReplay (λ same. omega (arith, same)) words a b one other)
 
 -- where the options that are given say nothing, the words are not those of the command
-pub no_options : {O : Type 0} (table : List Known) (AskFor : List Given → O → Type 0) → has_names table ≡ true
-    → (rest : List (List ℕ)) (given : List Given) → IsRead table rest given → ((o : O) → AskFor given o → ⊥) → (o : O) → AreOptions table AskFor rest o → ⊥
+pub no_options : {O : Type 0} (table : List Known) (AskFor : List GivenOption → O → Type 0) → has_names table ≡ true
+    → (rest : List (List ℕ)) (given : List GivenOption) → IsRead table rest given → ((o : O) → AskFor given o → ⊥) → (o : O) → AreOptions table AskFor rest o → ⊥
 no_options table AskFor good rest given read nothing o are =
-    nothing o (subst (λ (g : List Given). AskFor g o) (read_once table rest are.given given good are.read read) are.asks)
+    nothing o (subst (λ (g : List GivenOption). AskFor g o) (read_once table rest are.given given good are.read read) are.asks)
 
 pub unsaid : {O : Type 0} (Asks : O → Type 0) (nothing reason : Type 0) (value : Option O) (result : Result O Ending) → result ≡ ok_or value Words
     → MatchOption value nothing Asks → (nothing → reason) → IfErr result (SaysNothing reason)
@@ -103,12 +103,12 @@ unsaid Asks nothing reason (Some o) result is says refused = rw is tt
 
 -- ---- the words after a command's name say nothing
 
-no_says : {O : Type 0} (name : List ℕ) (table : List Known) (AskFor : List Given → O → Type 0) (words rest : List (List ℕ)) → words ≡ name ∷ rest
+no_says : {O : Type 0} (name : List ℕ) (table : List Known) (AskFor : List GivenOption → O → Type 0) (words rest : List (List ℕ)) → words ≡ name ∷ rest
     → ((o : O) → AreOptions table AskFor rest o → ⊥) → (o : O) → Says name table AskFor words o → ⊥
 no_says name table AskFor words rest are nothing o says =
     nothing o (subst (λ (words : List (List ℕ)). AreOptions table AskFor words o) (same_rest name says.rest rest (sym says.words_are ∙ are)) says.options)
 
-other_name : {O : Type 0} (name other : List ℕ) (table : List Known) (AskFor : List Given → O → Type 0) (words rest : List (List ℕ)) → words ≡ other ∷ rest → length name ≢ length other
+other_name : {O : Type 0} (name other : List ℕ) (table : List Known) (AskFor : List GivenOption → O → Type 0) (words rest : List (List ℕ)) → words ≡ other ∷ rest → length name ≢ length other
     → (o : O) → Says name table AskFor words o → ⊥
 other_name name other table AskFor words rest are apart o says =
     name_apart name other apart words says.rest rest says.words_are are

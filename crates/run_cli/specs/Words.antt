@@ -1,6 +1,6 @@
 -- What the words of a command say: its options and their ranges (this project's own).
 use Rattle.std.specs.Prelude.{◌≡◌, ℕ, List, [], ◌∷◌, Option, None, Some, codes}
-use Rattle.command_options.specs.Given.{Known, Given, IsRead, required_option, other_option, value_given}
+use Rattle.command_options.specs.Given.{Known, GivenOption, IsRead, required_option, other_option, value_given}
 use Rattle.command_options.specs.Numbers.{Tells}
 use Rattle.run_cli.specs.Asked.{ImageAsked, SetupAsked, RunAsked, ReplayAsked, Asked, Run, Replay, Inspect}
 
@@ -40,38 +40,38 @@ IsNumber low high usual None n = n ≡ usual
 IsNumber low high usual (Some text) n = Tells text low high n
 
 -- what options that are given ask for: an image, a setup, a run, a replay
-pub record AskForImage (given : List Given) (asked : ImageAsked) : Type 0 where
+pub record AskForImage (given : List GivenOption) (asked : ImageAsked) : Type 0 where
   pub name : value_given given (codes "image") ≡ Some asked.name
   pub cores : IsNumber 1 8 1 (value_given given (codes "cores")) asked.cores
   pub stack : IsNumber 1 4096 16 (value_given given (codes "stack")) asked.stack
   pub heap : IsNumber 0 4096 256 (value_given given (codes "heap")) asked.heap
 
-pub record AskForSetup (given : List Given) (o : SetupAsked) : Type 0 where
+pub record AskForSetup (given : List GivenOption) (o : SetupAsked) : Type 0 where
   pub image : AskForImage given o.image
   pub input : value_given given (codes "input") ≡ o.input
   pub policy : value_given given (codes "policy") ≡ o.policy
   pub budget : IsNumber 1 1048576 1048576 (value_given given (codes "budget")) o.budget
   pub limit : IsNumber 1 4294967280 4294967280 (value_given given (codes "limit")) o.limit
 
-pub record AskForRun (given : List Given) (o : RunAsked) : Type 0 where
+pub record AskForRun (given : List GivenOption) (o : RunAsked) : Type 0 where
   pub setup : AskForSetup given o.setup
   pub lane : IsNumber 1 4096 64 (value_given given (codes "lane")) o.lane
   pub quantum : IsNumber 1 4096 64 (value_given given (codes "quantum")) o.quantum
 
-pub record AskForReplay (given : List Given) (o : ReplayAsked) : Type 0 where
+pub record AskForReplay (given : List GivenOption) (o : ReplayAsked) : Type 0 where
   pub image : value_given given (codes "image") ≡ Some o.image
   pub report : value_given given (codes "report") ≡ Some o.report
   pub input : value_given given (codes "input") ≡ o.input
   pub policy : value_given given (codes "policy") ≡ o.policy
 
 -- the words after a command's name
-pub record AreOptions {O : Type 0} (table : List Known) (AskFor : List Given → O → Type 0) (rest : List (List ℕ)) (o : O) : Type 0 where
-  pub given : List Given
+pub record AreOptions {O : Type 0} (table : List Known) (AskFor : List GivenOption → O → Type 0) (rest : List (List ℕ)) (o : O) : Type 0 where
+  pub given : List GivenOption
   pub read : IsRead table rest given
   pub asks : AskFor given o
 
 -- the words are a command's name, and its options
-pub record Says {O : Type 0} (name : List ℕ) (table : List Known) (AskFor : List Given → O → Type 0) (words : List (List ℕ)) (o : O) : Type 0 where
+pub record Says {O : Type 0} (name : List ℕ) (table : List Known) (AskFor : List GivenOption → O → Type 0) (words : List (List ℕ)) (o : O) : Type 0 where
   pub rest : List (List ℕ)
   pub words_are : words ≡ name ∷ rest
   pub options : AreOptions table AskFor rest o

@@ -113,7 +113,7 @@ fn r_word(opcode: u32, funct3: u32, funct7: u32, rd: u8, rs1: u8, rs2: u8) -> u3
     ensures rs2 { rs2_of result ≡ rs2 }
 {
     let (rd, rs1, rs2) = (u32::from(rd), u32::from(rs1), u32::from(rs2));
-    joined(opcode, rd, funct3, rs1, rs2, funct7)
+    word_of_fields(opcode, rd, funct3, rs1, rs2, funct7)
 }
 
 fn i_word(opcode: u32, funct3: u32, rd: u8, rs1: u8, imm: i32) -> u32
@@ -129,7 +129,7 @@ fn i_word(opcode: u32, funct3: u32, rd: u8, rs1: u8, imm: i32) -> u32
     ensures immediate { imm_i result ≡ imm }
 {
     let field = field_of(1 << 11, imm);
-    joined(
+    word_of_fields(
         opcode,
         u32::from(rd),
         funct3,
@@ -151,7 +151,7 @@ fn s_word(funct3: u32, rs1: u8, rs2: u8, imm: i32) -> u32
     ensures immediate { imm_s result ≡ imm }
 {
     let field = field_of(1 << 11, imm);
-    joined(
+    word_of_fields(
         STORE,
         field & 0x1f,
         funct3,
@@ -175,7 +175,7 @@ fn b_word(funct3: u32, rs1: u8, rs2: u8, imm: i32) -> u32
     let field = field_of(1 << 12, imm);
     let low = (field >> 1 & 0xf) * 2 + (field >> 11 & 0x1);
     let high = (field >> 12) * 0x40 + (field >> 5 & 0x3f);
-    joined(BRANCH, low, funct3, u32::from(rs1), u32::from(rs2), high)
+    word_of_fields(BRANCH, low, funct3, u32::from(rs1), u32::from(rs2), high)
 }
 
 fn u_word(opcode: u32, rd: u8, imm: u32) -> u32
@@ -203,7 +203,7 @@ fn j_word(rd: u8, imm: i32) -> u32
 }
 
 /// The word of these fields.
-fn joined(opcode: u32, rd: u32, funct3: u32, rs1: u32, rs2: u32, funct7: u32) -> u32
+fn word_of_fields(opcode: u32, rd: u32, funct3: u32, rs1: u32, rs2: u32, funct7: u32) -> u32
     requires op { opcode < 128 }
     requires width { funct3 < 8 }
     requires function { funct7 < 128 }
