@@ -21,17 +21,17 @@ use Rattle.rv_decode.specs.Decoded.{decoded, decoded_imm, decoded_word_atomic, b
 
 -- ---- each operation is found by its own functs
 
-branch_kind-funct3 : (kind : BranchKind) → branch_kind (branch_funct3 kind) ≡ Some kind
-branch_kind-funct3 Beq = refl
-branch_kind-funct3 _ = refl
+branch_kind_funct3 : (kind : BranchKind) → branch_kind (branch_funct3 kind) ≡ Some kind
+branch_kind_funct3 Beq = refl
+branch_kind_funct3 _ = refl
 
-load_kind-funct3 : (kind : LoadKind) → load_kind (load_funct3 kind) ≡ Some kind
-load_kind-funct3 Lb = refl
-load_kind-funct3 _ = refl
+load_kind_funct3 : (kind : LoadKind) → load_kind (load_funct3 kind) ≡ Some kind
+load_kind_funct3 Lb = refl
+load_kind_funct3 _ = refl
 
-store_kind-funct3 : (kind : StoreKind) → store_kind (store_funct3 kind) ≡ Some kind
-store_kind-funct3 Sb = refl
-store_kind-funct3 _ = refl
+store_kind_funct3 : (kind : StoreKind) → store_kind (store_funct3 kind) ≡ Some kind
+store_kind_funct3 Sb = refl
+store_kind_funct3 _ = refl
 
 -- the funct7 of an operation, or any where it has none
 abbrev own : Option ℕ → ℕ → ℕ
@@ -42,29 +42,29 @@ own_allowed : (o : Option ℕ) (f7 : ℕ) → IsTrue (allows o f7) → own o f7 
 own_allowed None f7 h = refl
 own_allowed (Some n) f7 h = sym (eqb-true f7 n h)
 
-imm_kind-own : (kind : ImmKind) (f7 : ℕ) → imm_kind (own (imm_functs kind).funct7 f7) (imm_functs kind).funct3 ≡ Some kind
-imm_kind-own Addi f7 = refl
-imm_kind-own _ f7 = refl
+imm_kind_own : (kind : ImmKind) (f7 : ℕ) → imm_kind (own (imm_functs kind).funct7 f7) (imm_functs kind).funct3 ≡ Some kind
+imm_kind_own Addi f7 = refl
+imm_kind_own _ f7 = refl
 
-imm_kind-functs : (kind : ImmKind) (f7 : ℕ) → IsTrue (allows (imm_functs kind).funct7 f7) → imm_kind f7 (imm_functs kind).funct3 ≡ Some kind
-imm_kind-functs kind f7 h =
+imm_kind_functs : (kind : ImmKind) (f7 : ℕ) → IsTrue (allows (imm_functs kind).funct7 f7) → imm_kind f7 (imm_functs kind).funct3 ≡ Some kind
+imm_kind_functs kind f7 h =
     let P : ℕ → Type 0 = λ g. imm_kind g (imm_functs kind).funct3 ≡ Some kind in
-    subst P (own_allowed (imm_functs kind).funct7 f7 h) (imm_kind-own kind f7)
+    subst P (own_allowed (imm_functs kind).funct7 f7 h) (imm_kind_own kind f7)
 
-reg_kind-functs : (kind : RegKind) → reg_kind (reg_functs kind).funct7 (reg_functs kind).funct3 ≡ Some kind
-reg_kind-functs Add = refl
-reg_kind-functs _ = refl
+reg_kind_functs : (kind : RegKind) → reg_kind (reg_functs kind).funct7 (reg_functs kind).funct3 ≡ Some kind
+reg_kind_functs Add = refl
+reg_kind_functs _ = refl
 
 -- ---- a word that means an instruction is decoded to it
 
-operand_of-HasOperand : (w : ℕ) (o : Option ℕ) (imm : ℤ) → HasOperand w o imm → IsTrue (allows o (funct7 w)) × (operand_of w o ≡ imm)
-operand_of-HasOperand w None imm m = (refl, m)
-operand_of-HasOperand w (Some n) imm m = (eq-eqb _ _ m.0, m.1)
+operand_of_HasOperand : (w : ℕ) (o : Option ℕ) (imm : ℤ) → HasOperand w o imm → IsTrue (allows o (funct7 w)) × (operand_of w o ≡ imm)
+operand_of_HasOperand w None imm m = (refl, m)
+operand_of_HasOperand w (Some n) imm m = (eq-eqb _ _ m.0, m.1)
 
 complete_imm : (w : ℕ) (kind : ImmKind) (rd rs1 : ℕ) (imm : ℤ) → Means w (Imm kind rd rs1 imm) → decoded_imm w ≡ Some (Imm kind rd rs1 imm)
 complete_imm w kind rd rs1 imm m =
-    let h : IsTrue (allows (imm_functs kind).funct7 (funct7 w)) × (operand_of w (imm_functs kind).funct7 ≡ imm) = operand_of-HasOperand w (imm_functs kind).funct7 imm m.4 in
-    rw (m.1, imm_kind-functs kind (funct7 w) h.0, m.2, m.3, h.1) refl
+    let h : IsTrue (allows (imm_functs kind).funct7 (funct7 w)) × (operand_of w (imm_functs kind).funct7 ≡ imm) = operand_of_HasOperand w (imm_functs kind).funct7 imm m.4 in
+    rw (m.1, imm_kind_functs kind (funct7 w) h.0, m.2, m.3, h.1) refl
 
 complete_amo : (w : ℕ) (kind : AmoKind) (rd rs1 rs2 : ℕ) → Means w (Amo kind rd rs1 rs2) → decoded_word_atomic w ≡ Some (Amo kind rd rs1 rs2)
 complete_amo w AmoAdd rd rs1 rs2 m = rw (m.2, m.3, m.4, m.5) refl
@@ -75,11 +75,11 @@ complete w (Lui rd imm) m = rw (m.0, m.1, m.2) refl
 complete w (Auipc rd imm) m = rw (m.0, m.1, m.2) refl
 complete w (Jal rd imm) m = rw (m.0, m.1, m.2) refl
 complete w (Jalr rd rs1 imm) m = rw (m.0, m.1, m.2, m.3, m.4) refl
-complete w (Branch kind rs1 rs2 imm) m = rw (m.0, m.1, branch_kind-funct3 kind, m.2, m.3, m.4) refl
-complete w (Load kind rd rs1 imm) m = rw (m.0, m.1, load_kind-funct3 kind, m.2, m.3, m.4) refl
-complete w (Store kind rs1 rs2 imm) m = rw (m.0, m.1, store_kind-funct3 kind, m.2, m.3, m.4) refl
+complete w (Branch kind rs1 rs2 imm) m = rw (m.0, m.1, branch_kind_funct3 kind, m.2, m.3, m.4) refl
+complete w (Load kind rd rs1 imm) m = rw (m.0, m.1, load_kind_funct3 kind, m.2, m.3, m.4) refl
+complete w (Store kind rs1 rs2 imm) m = rw (m.0, m.1, store_kind_funct3 kind, m.2, m.3, m.4) refl
 complete w (Imm kind rd rs1 imm) m = rw m.0 (complete_imm w kind rd rs1 imm m)
-complete w (Reg kind rd rs1 rs2) m = rw (m.0, m.1, m.2, reg_kind-functs kind, m.3, m.4, m.5) refl
+complete w (Reg kind rd rs1 rs2) m = rw (m.0, m.1, m.2, reg_kind_functs kind, m.3, m.4, m.5) refl
 complete w Fence m = rw (m.0, m.1) refl
 complete w Ecall m = rw m refl
 complete w Ebreak m = rw m refl

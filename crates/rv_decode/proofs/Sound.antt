@@ -62,9 +62,9 @@ reg_kind_is f7 f3 = found _ (IsReg f7 f3) (λ k. (Decides-and _ _ (Decides-eqb f
 imm_kind_is : (f7 f3 : ℕ) → IfSome (imm_kind f7 f3) (IsImm f7 f3)
 imm_kind_is f7 f3 = found _ (IsImm f7 f3) (λ k. (Decides-and _ _ (Decides-eqb f3 (imm_functs k).funct3) (λ t. t, λ t. t)).0) imm_kinds
 
-HasOperand-operand_of : (w : ℕ) (o : Option ℕ) → IsTrue (allows o (funct7 w)) → HasOperand w o (operand_of w o)
-HasOperand-operand_of w None h = refl
-HasOperand-operand_of w (Some n) h = (eqb-true _ _ h, refl)
+HasOperand_operand_of : (w : ℕ) (o : Option ℕ) → IsTrue (allows o (funct7 w)) → HasOperand w o (operand_of w o)
+HasOperand_operand_of w None h = refl
+HasOperand_operand_of w (Some n) h = (eqb-true _ _ h, refl)
 
 -- ---- the rows
 
@@ -75,7 +75,7 @@ sound w =
     let branch : opcode w ≡ BRANCH → IfSome (decoded_branch w) P = λ e. mapped P (λ k. Branch k (rs1_of w) (rs2_of w) (imm_b w)) (λ k. funct3 w ≡ branch_funct3 k) (branch_kind (funct3 w)) (branch_kind_is (funct3 w)) (λ k h. (e, h, refl, refl, refl)) in
     let load : opcode w ≡ LOAD → IfSome (decoded_load w) P = λ e. mapped P (λ k. Load k (rd_of w) (rs1_of w) (imm_i w)) (λ k. funct3 w ≡ load_funct3 k) (load_kind (funct3 w)) (load_kind_is (funct3 w)) (λ k h. (e, h, refl, refl, refl)) in
     let store : opcode w ≡ STORE → IfSome (decoded_store w) P = λ e. mapped P (λ k. Store k (rs1_of w) (rs2_of w) (imm_s w)) (λ k. funct3 w ≡ store_funct3 k) (store_kind (funct3 w)) (store_kind_is (funct3 w)) (λ k h. (e, h, refl, refl, refl)) in
-    let imm : opcode w ≡ OP_IMM → IfSome (decoded_imm w) P = λ e. mapped P (λ k. Imm k (rd_of w) (rs1_of w) (operand_of w (imm_functs k).funct7)) (IsImm (funct7 w) (funct3 w)) (imm_kind (funct7 w) (funct3 w)) (imm_kind_is (funct7 w) (funct3 w)) (λ k h. (e, h.0, refl, refl, HasOperand-operand_of w (imm_functs k).funct7 h.1)) in
+    let imm : opcode w ≡ OP_IMM → IfSome (decoded_imm w) P = λ e. mapped P (λ k. Imm k (rd_of w) (rs1_of w) (operand_of w (imm_functs k).funct7)) (IsImm (funct7 w) (funct3 w)) (imm_kind (funct7 w) (funct3 w)) (imm_kind_is (funct7 w) (funct3 w)) (λ k h. (e, h.0, refl, refl, HasOperand_operand_of w (imm_functs k).funct7 h.1)) in
     let reg : opcode w ≡ OP → IfSome (decoded_reg w) P = λ e. mapped P (λ k. Reg k (rd_of w) (rs1_of w) (rs2_of w)) (IsReg (funct7 w) (funct3 w)) (reg_kind (funct7 w) (funct3 w)) (reg_kind_is (funct7 w) (funct3 w)) (λ k h. (e, h.0, h.1, refl, refl, refl)) in
     let fence : opcode w ≡ MISC_MEM → IfSome (decoded_fence w) P = λ e. chain P (funct3 w) 0b000 _ _ (λ f. (e, f)) tt in
     let atomic : opcode w ≡ AMO → IfSome (decoded_atomic w) P = λ e. chain P (funct3 w) WIDTH_W _ _ (λ f. chain P (funct5 w) LR _ _ (λ g. chain P (rs2_of w) 0 _ _ (λ z. (e, f, g, refl, refl, z)) tt) (chain P (funct5 w) SC _ _ (λ g. (e, f, g, refl, refl, refl)) (mapped P (λ k. Amo k (rd_of w) (rs1_of w) (rs2_of w)) (λ k. funct5 w ≡ amo_funct5 k) (amo_kind (funct5 w)) (amo_kind_is (funct5 w)) (λ k h. (e, f, h, refl, refl, refl))))) tt in
