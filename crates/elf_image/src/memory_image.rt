@@ -13,6 +13,7 @@ use crate::limits::{MOST_CORES, MOST_HEAP, MOST_STACK, PAGE_BYTES, PAGE_WORDS};
 use crate::loading::{accepted_segments, check_entry, map_memory};
 use crate::page_table::{PageTable, Permissions, place_among};
 use crate::segments::{Segment, break_page, segment_at};
+use boxcar::tag::{Names, Tag};
 use std::alloc::{AllocError, Global};
 use std::marker::Model;
 
@@ -23,11 +24,18 @@ struct Page {
     permissions: Permissions,
 }
 
+/// The bytes of a file as the numbers of a tag, which has no bytes and which clauses alone see.
+struct FileBytes;
+
+impl Names<&[u8]> for FileBytes {
+    ghost numbers = { λ bytes. bytes.now };
+}
+
 /// A loaded image: what memory holds before the first instruction, and which of it may be written
 /// and executed.
 #[derive(Drop)]
 pub struct Image {
-    bytes: Vec<u8>,
+    file: Tag,
     cores: u8,
     stack: u32,
     heap: u32,
@@ -47,9 +55,9 @@ impl Model for Image {
 
     ghost Value = { Layout };
 
-    ghost view = { λ image. layout_of image.bytes.items image.cores image.stack image.heap };
+    ghost view = { λ image. layout_of image.file.numbers image.cores image.stack image.heap };
 
-    ghost invariant = { λ image. IsMemoryOf (layout_of image.bytes.items image.cores image.stack image.heap) image.mapped.items image.permissions.items image.words.items × IsReadFrom (layout_of image.bytes.items image.cores image.stack image.heap) image.segments.items image.break_base image.entry × IsAccepted (layout_of image.bytes.items image.cores image.stack image.heap) };
+    ghost invariant = { λ image. IsMemoryOf (layout_of image.file.numbers image.cores image.stack image.heap) image.mapped.items image.permissions.items image.words.items × IsReadFrom (layout_of image.file.numbers image.cores image.stack image.heap) image.segments.items image.break_base image.entry × IsAccepted (layout_of image.file.numbers image.cores image.stack image.heap) };
 }
 
 /// The image of a file for a count of cores, of the pages of each core's stack and of those of the
@@ -75,14 +83,14 @@ pub fn load(
     let entry = entry_address(bytes);
     check_entry(entry, &segments)?;
     let words = first_words(alloc, bytes, &segments, &table.mapped)?;
-    let kept = Vec::from_slice(alloc, bytes)?;
+    let file = Tag::of::<&[u8], FileBytes>(&bytes);
     let break_base = PAGE_BYTES * break_page(&segments) as u32;
     let PageTable {
         mapped,
         permissions,
     } = table;
     Ok(Image {
-        bytes: kept,
+        file,
         cores,
         stack,
         heap,

@@ -44,7 +44,7 @@ invariant_of-result c =
     let contents =
     contents-at c.args.bytes.now c.deref-3.result.now c.in_ok-segments.segments.items c.deref-4.result.now c.in_ok-table.table.mapped.items c.in_ok-words.words.items c.deref-3.ensures.value c.deref-4.ensures.value c.in_ok-words.ensures in
     let first = c.break_page.ensures ∙ ap break_page c.deref-5.ensures.value in
-    rw c.in_ok-kept.ensures.items (
+    rw c.of-file.ensures (
       memory-from c.args.bytes.now c.args.cores c.args.stack c.args.heap c.in_ok-segments.segments.items c.in_ok-table.table.mapped.items c.in_ok-table.table.permissions.items c.in_ok-words.words.items c.in_ok-segments.ensures.segments table few contents,
       read-from c.args.bytes.now c.args.cores c.args.stack c.args.heap c.break_page.result c.entry_address-entry.result c.in_ok-segments.segments.items c.in_ok-segments.ensures.segments c.in_ok-segments.ensures.few c.in_ok-segments.ensures.ends first c.in_ok-segments.ensures.heap_end c.entry_address-entry.ensures (entry-aligned c.entry_address-entry.result _ c.in_ok-check_entry.ensures),
       record {
