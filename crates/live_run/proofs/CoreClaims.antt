@@ -6,12 +6,11 @@ use Rattle.std.proofs.lemmas.Bool.{cases_eq}
 use Rattle.std.proofs.lemmas.List.{get_or-map}
 use Rattle.std.proofs.lemmas.List.FromFn.{get_or-range_with_len, length-range_with_len}
 use Rattle.std.proofs.lemmas.List.Elements.{recursion_from_All}
-use Rattle.elf_image.specs.Layout.{Layout, first_word, words_of}
+use Rattle.elf_image.specs.Layout.{Layout, first_word, first_words, words_of}
 use Rattle.ticket_table.specs.declared.change.Change.{Change}
 use Rattle.ticket_table.specs.History.{Basis, MayFollow, IsHistory, of_caller}
 use Rattle.ticket_table.specs.Passes.{TableSeen}
 use Rattle.ticket_table.proofs.Histories.{by_steps, of_caller_same, of_caller_other}
-use Rattle.word_stores.specs.FirstWords.{first_words}
 use Rattle.syscall_drain.specs.Locals.{opening_local}
 use Rattle.syscall_drain.specs.Pieces.{Piece}
 use Rattle.machine.specs.Setups.{Setup}

@@ -12,7 +12,7 @@ use Rattle.ticket_table.specs.Words.{payload_of}
 use Rattle.ticket_table.specs.History.{Basis, of_caller}
 use Rattle.ticket_table.specs.Passes.{PassSeen, TableSeen, Closes}
 use Rattle.ticket_table.specs.Calls.{MayClose}
-use Rattle.word_stores.proofs.FirstPayloads.{first_words_count}
+use Rattle.elf_image.proofs.FirstWords.{first_words_count}
 use Rattle.syscall_drain.specs.Pieces.{Piece}
 use Rattle.machine.specs.Setups.{Setup, core_count}
 use Rattle.live_run.specs.declared.pair.Pair.{Pair}

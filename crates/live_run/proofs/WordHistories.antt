@@ -4,7 +4,8 @@ use Rattle.std.specs.Prelude.{All, slice_index, replicate}
 use Rattle.std.proofs.lemmas.Bool.{cases_eq}
 use Rattle.std.proofs.lemmas.List.FromFn.{get_or-map-range_with_len}
 use Rattle.std.proofs.lemmas.List.Elements.{All-nil, All-cons, All-head, All-tail, All-append, All-map, All-weaker}
-use Rattle.elf_image.specs.Layout.{Layout, first_word, words_of}
+use Rattle.elf_image.specs.Layout.{Layout, first_word, first_words, words_of}
+use Rattle.elf_image.proofs.FirstWords.{first_words_count}
 use Rattle.rv_execute.specs.declared.op.Op.{Op}
 use Rattle.record_lane.specs.declared.record.Record.{Record}
 use Rattle.record_lane.specs.declared.record.Record.TheVariants.{Quiet, Blank, Touch, Meet, Back, End}
@@ -20,8 +21,6 @@ use Rattle.ticket_table.specs.declared.change.Terms.{Terms}
 use Rattle.ticket_table.specs.declared.change.Change.{Change}
 use Rattle.ticket_table.specs.History.{Basis, IsHistory, of_caller}
 use Rattle.ticket_table.specs.Passes.{TableSeen}
-use Rattle.word_stores.specs.FirstWords.{first_words}
-use Rattle.word_stores.proofs.FirstPayloads.{first_words_count}
 use Rattle.actor_lists.specs.Folded.{change_by}
 use Rattle.machine.specs.Setups.{Setup, core_count}
 use Rattle.machine.proofs.Parts.{WordParts}

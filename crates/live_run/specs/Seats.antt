@@ -1,13 +1,12 @@
 -- The actors of a run, each pair with its ring and its lane, at the two tables of the setup (this project's own).
 use Rattle.std.specs.Prelude.{◌≡◌, ℕ, true, List, length, replicate, slice_get, Some}
-use Rattle.elf_image.specs.Layout.{words_of}
+use Rattle.elf_image.specs.Layout.{first_words, words_of}
 use Rattle.record_lane.specs.declared.record.Record.{Record}
 use Rattle.record_lane.specs.declared.reply.Reply.{Reply}
 use Rattle.record_lane.specs.declared.ring.Ring.{Ring}
 use Rattle.record_lane.specs.declared.lane.Lane.{Lane}
 use Rattle.ticket_table.specs.declared.change.Role.TheVariants.{Draw, Serve}
 use Rattle.ticket_table.specs.Passes.{TableSeen}
-use Rattle.word_stores.specs.FirstWords.{first_words}
 use Rattle.machine.specs.Setups.{Setup, core_count}
 use Rattle.hart_actor.specs.Harts.{Hart, HasEnded}
 use Rattle.hart_actor.specs.Objects.{AreOf as AreOfHart}

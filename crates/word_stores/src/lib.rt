@@ -2,7 +2,6 @@
 //! the order of those numbers.
 #![tactic(auto)]
 
-mod payloads;
 mod shared_memory;
 mod tag_memory;
 #[cfg(test)]

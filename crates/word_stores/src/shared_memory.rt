@@ -1,16 +1,14 @@
 //! The words of an image, shared by the cores of a run.
 
 ghost use Rattle.std.specs.Prelude.{◌≡◌, ◌+◌, ◌<◌, ◌≤◌, length, IfOk};
-ghost use Rattle.elf_image.specs.Layout.{words_of};
+ghost use Rattle.elf_image.specs.Layout.{first_words, words_of};
 ghost use Rattle.ticket_table.specs.declared.change.Role.TheVariants.{Draw};
 ghost use Rattle.ticket_table.specs.Passes.{AreFresh};
 ghost use Rattle.ticket_table.specs.Calls.{MayDraw, MayClose, HasDrawn, IsClosed};
-ghost use Rattle.word_stores.specs.FirstWords.{first_words};
 
-use crate::payloads::first_payloads;
 use bounded_list::NoMemory;
 use elf_image::Image;
-use rv_execute::{Op, Taken};
+use rv_execute::{MOST_NUMBERS, Op, Taken};
 use std::alloc::Global;
 use std::marker::Model;
 use ticket_table::{Closed, Pass, Role, TicketTable};
@@ -36,7 +34,7 @@ impl Model for SharedMemory {
 impl SharedMemory {
     /// The first words of an image, with a pass for each of the callers 0, 1, 2 and so on. From `limit` on the accesses to a word
     /// are spent.
-    #[tactic(auto, using(crate::proofs::FirstPayloads::first_words_count, crate::proofs::FirstPayloads::some_word))]
+    #[tactic(auto, using(elf_image::proofs::FirstWords::first_words_count, elf_image::proofs::FirstWords::some_word))]
     pub fn create(
         alloc: Global,
         image: &Image,
@@ -44,12 +42,14 @@ impl SharedMemory {
         limit: u32,
     ) -> Result<(SharedMemory, Vec<Pass>), NoMemory>
         requires callers { 0 < callers }
-        requires room { limit + callers ≤ 4294967294 }
+        requires room { limit + callers ≤ MOST_NUMBERS }
         ensures basis { IfOk result (λ made. made.0.basis ≡ record { terms = record { role = Draw; limit = limit; callers = callers }; first = first_words image.now }) }
         ensures words { IfOk result (λ made. length made.0.basis.first ≡ words_of image.now) }
         ensures passes { IfOk result (λ made. AreFresh made.0 made.1.items) }
     {
-        let payloads = first_payloads(alloc, image)?;
+        let Ok(payloads) = image.first_words(alloc) else {
+            return Err(NoMemory);
+        };
         let (words, passes) = TicketTable::create(
             alloc,
             payloads.as_slice(),

@@ -5,12 +5,18 @@ ghost use Rattle.ticket_table.specs.declared.change.Role.TheVariants.{Serve};
 ghost use Rattle.ticket_table.specs.Passes.{AreFresh};
 ghost use Rattle.ticket_table.specs.Calls.{MayServe, MayClose, HasServed, IsClosed};
 
-use crate::payloads::zeros;
 use bounded_list::NoMemory;
-use rv_execute::Op;
+use rv_execute::{MOST_NUMBERS, Op};
 use std::alloc::Global;
 use std::marker::Model;
 use ticket_table::{Closed, Pass, Role, Served, TicketTable};
+
+/// As many zeros as are wanted.
+fn zeros(alloc: Global, words: u32) -> Result<Vec<u32>, NoMemory>
+    ensures { IfOk result (λ payloads. payloads.items ≡ replicate words 0) }
+{
+    vec![in alloc; 0; words as usize].map_err(|_| NoMemory)
+}
 
 /// The tags of a run's words: each change comes with its number, and is made when the word has reached it.
 #[derive(Drop)]
@@ -40,7 +46,7 @@ impl TagMemory {
         limit: u32,
     ) -> Result<(TagMemory, Vec<Pass>), NoMemory>
         requires size { (0 < words) × (0 < callers) }
-        requires room { limit + callers ≤ 4294967294 }
+        requires room { limit + callers ≤ MOST_NUMBERS }
         ensures basis { IfOk result (λ made. made.0.basis ≡ record { terms = record { role = Serve; limit = limit; callers = callers }; first = replicate words 0 }) }
         ensures passes { IfOk result (λ made. AreFresh made.0 made.1.items) }
     {
