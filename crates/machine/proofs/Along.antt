@@ -18,7 +18,7 @@ few_units s setup t count reached =
     let most = total_at_most (λ (c : Core). c.local.units) t.cores s.budget (core_count s) (λ c below. (reached.cores c).within) in
     omega (arith, setup.most_units, reached.units, most)
 
-step_at : (s : Setup) → IsSetup s → (t : State) (count c : ℕ) → IsAt s t count → c < core_count s → (t.cores c).local.ending ≡ None → IsAt s (step s t c) (count + 1)
+pub step_at : (s : Setup) → IsSetup s → (t : State) (count c : ℕ) → IsAt s t count → c < core_count s → (t.cores c).local.ending ≡ None → IsAt s (step s t c) (count + 1)
 step_at s setup t count c at below running = record {
   reached = step_reached s t count c at.reached below running;
   written = step_written s t count c at.reached at.written below running (few_units s setup t count at.reached);

@@ -17,4 +17,9 @@ pub mod Parts
 pub mod Splitting
 pub mod Joining
 pub mod Finishing
+pub mod ResultRanges
+pub mod HartRanges
+pub mod ImageRanges
+pub mod LocalRanges
+pub mod Ranges
 mod Rows
