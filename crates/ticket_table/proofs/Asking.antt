@@ -9,7 +9,7 @@ use Rattle.ticket_table.specs.declared.change.Role.TheVariants.{Serve}
 use Rattle.ticket_table.specs.declared.change.Change.{Change}
 use Rattle.ticket_table.specs.declared.change.View.{View}
 use Rattle.ticket_table.specs.declared.change.Note.{Note}
-use Rattle.ticket_table.specs.Words.{number_of, payload_of, word_of}
+use Rattle.ticket_table.specs.Words.{number_of, payload_of, packed}
 use Rattle.ticket_table.specs.History.{Basis, has_spent, left_by}
 use Rattle.ticket_table.specs.Views.{has, IsAlone, looked, looked_at}
 use Rattle.ticket_table.specs.Rule.{Kept, Exchanged}
@@ -26,7 +26,7 @@ serves_on role limit changes serve = ap (λ (r : Role). has_spent r limit change
 
 pub asks_after_look : (v : View) (steps word seen new second : ℕ) (note : Note) → IsAlone v note.caller → has_spent v.terms.role v.terms.limit v.mine ≡ false
     → number_of seen < v.terms.limit + v.terms.callers → new ≡ left_by v.terms.role v.terms.limit note.op (number_of seen) (payload_of seen) → new < 4294967296
-    → second ≡ word_of (number_of seen + 1) new → Asks (looked_at steps v word seen) word seen second note
+    → second ≡ packed (number_of seen + 1) new → Asks (looked_at steps v word seen) word seen second note
 asks_after_look v steps word seen new second note alone unspent below is small written =
     record {
       live = alone.live;
@@ -35,7 +35,7 @@ asks_after_look v steps word seen new second note alone unspent below is small w
       below = below;
       unspent = ap (λ (changes : List Change). has_spent v.terms.role v.terms.limit changes) alone.own ∙ unspent;
       small = (let P : ℕ → Type 0 = λ n. n < 4294967296 in subst P is small);
-      written = written ∙ ap (λ (n : ℕ). word_of (number_of seen + 1) n) is;
+      written = written ∙ ap (λ (n : ℕ). packed (number_of seen + 1) n) is;
     }
 
 -- what is left, of equal parts
@@ -47,7 +47,7 @@ left_alike role other_role limit other_limit op number other_number old other_ol
 pub exchanges_after_look : (basis : Basis) (slots id word : ℕ) (me old_me : Me Note View) (seen new second : ℕ) (note : Note) → word < length basis.first
     → me ≡ (looked_at me.0.steps old_me.0 word seen, old_me.1) → IsAlone old_me.0 note.caller → has_spent old_me.0.terms.role old_me.0.terms.limit old_me.0.mine ≡ false
     → number_of seen < old_me.0.terms.limit + old_me.0.terms.callers → new ≡ left_by old_me.0.terms.role old_me.0.terms.limit note.op (number_of seen) (payload_of seen) → new < 4294967296
-    → second ≡ word_of (number_of seen + 1) new → Allows (Kept basis) slots id me word (λ n. either (eqb n seen) second n) (Exchanged (step slots word seen second (some note)) me)
+    → second ≡ packed (number_of seen + 1) new → Allows (Kept basis) slots id me word (λ n. either (eqb n seen) second n) (Exchanged (step slots word seen second (some note)) me)
 exchanges_after_look basis slots id word me old_me seen new second note within look alone unspent below is small written =
     let P : Me Note View → Type 0 = λ m. Allows (Kept basis) slots id m word (λ n. either (eqb n seen) second n) (Exchanged (step slots word seen second (some note)) m) in
     subst P (sym look) (exchanges basis slots id word (looked_at me.0.steps old_me.0 word seen, old_me.1) seen second note within

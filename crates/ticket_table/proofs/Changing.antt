@@ -12,10 +12,10 @@ use Rattle.ticket_table.specs.declared.change.Change.{Change}
 use Rattle.ticket_table.specs.declared.change.View.{View}
 use Rattle.ticket_table.specs.declared.change.Note.{Note}
 use Rattle.ticket_table.specs.declared.change.Terms.{Terms}
-use Rattle.ticket_table.specs.Words.{number_of, payload_of, word_of}
+use Rattle.ticket_table.specs.Words.{number_of, payload_of, packed}
 use Rattle.ticket_table.specs.History.{Basis, MayFollow, of_caller, has_spent, left_by, made, Follows}
 use Rattle.ticket_table.specs.Views.{has, looked, grown}
-use Rattle.ticket_table.specs.Rule.{Fits, KeptBy, Kept, Exchanged}
+use Rattle.ticket_table.specs.Rule.{FitsHistory, KeptBy, Kept, Exchanged}
 use Rattle.ticket_table.proofs.Histories.{history_more, of_caller_other}
 use Rattle.ticket_table.proofs.Leaving.{leaves_more, number_of_word_of}
 use Rattle.ticket_table.proofs.Following.{follows_caller}
@@ -29,7 +29,7 @@ pub record Asks (v : View) (word first second : ℕ) (note : Note) : Type 0 wher
   pub below : number_of first < v.terms.limit + v.terms.callers
   pub unspent : has_spent v.terms.role v.terms.limit (of_caller note.caller v.mine) ≡ false
   pub small : left_by v.terms.role v.terms.limit note.op (number_of first) (payload_of first) < 4294967296
-  pub written : second ≡ word_of (number_of first + 1) (left_by v.terms.role v.terms.limit note.op (number_of first) (payload_of first))
+  pub written : second ≡ packed (number_of first + 1) (left_by v.terms.role v.terms.limit note.op (number_of first) (payload_of first))
 
 -- ---- won
 
@@ -58,16 +58,16 @@ module _ (basis : Basis) (words : List ℕ) (views : List View) (h : List Change
 
   module _ (e : Change) (may : MayFollow basis h e) (mine : has v.callers e.caller ≡ true) (small : e.new < 4294967296) where
     after : List ℕ
-    after = set words e.word (word_of (e.number + 1) e.new)
+    after = set words e.word (packed (e.number + 1) e.new)
 
     there : e.word < length words
     there = let count = kept.leaves.count in let within = may.word in omega arith
 
-    written : get_or after e.word 0 ≡ word_of (e.number + 1) e.new
+    written : get_or after e.word 0 ≡ packed (e.number + 1) e.new
     unfolding after
-    written = get_or-set_same words e.word (word_of (e.number + 1) e.new) 0 there
+    written = get_or-set_same words e.word (packed (e.number + 1) e.new) 0 there
 
-    grown_fits : Fits basis (h ++ e ∷ []) after (grown v e)
+    grown_fits : FitsHistory basis (h ++ e ∷ []) after (grown v e)
     grown_fits =
         let fits = kept.fits id v at in
         record {
@@ -78,14 +78,14 @@ module _ (basis : Basis) (words : List ℕ) (views : List View) (h : List Change
               ∙ sym (filter-append (λ (x : Change). eqb x.caller c) v.mine (e ∷ []));
           only = λ c without. of_caller_other c v.mine e (λ is. absurd (let here : has v.callers c ≡ true = subst (λ (k : ℕ). has v.callers k ≡ true) is mine in cc)) ∙ fits.only c without;
           last = λ word x is.
-              let pair : ◌≡◌ {A = ℕ × ℕ} (e.word, word_of (e.number + 1) e.new) (word, x) = cc in
+              let pair : ◌≡◌ {A = ℕ × ℕ} (e.word, packed (e.number + 1) e.new) (word, x) = cc in
               let place : e.word ≡ word = ap (λ t. t.0) pair in
-              let value : word_of (e.number + 1) e.new ≡ x = ap (λ t. t.1) pair in
+              let value : packed (e.number + 1) e.new ≡ x = ap (λ t. t.1) pair in
               let now : x ≡ get_or after word 0 = sym value ∙ (sym written ∙ ap (λ (k : ℕ). get_or after k 0) place) in
               (let same : number_of x ≡ number_of (get_or after word 0) = ap number_of now in omega arith, λ _. now);
         }
 
-    other_fits : (j : ℕ) (u : View) → j ≢ id → get_elem? views j ≡ some u → Fits basis (h ++ e ∷ []) after u
+    other_fits : (j : ℕ) (u : View) → j ≢ id → get_elem? views j ≡ some u → FitsHistory basis (h ++ e ∷ []) after u
     unfolding after
     other_fits j u apart there_is =
         let fits = kept.fits j u there_is in
@@ -101,22 +101,22 @@ module _ (basis : Basis) (words : List ℕ) (views : List View) (h : List Change
         by_word : (word x : ℕ)
             → (number_of x ≤ number_of (get_or words word 0)) × (number_of x ≡ number_of (get_or words word 0) → x ≡ get_or words word 0)
             → (word ≡ e.word) ⊎ (word ≢ e.word)
-            → (number_of x ≤ number_of (get_or (set words e.word (word_of (e.number + 1) e.new)) word 0))
-            × (number_of x ≡ number_of (get_or (set words e.word (word_of (e.number + 1) e.new)) word 0) → x ≡ get_or (set words e.word (word_of (e.number + 1) e.new)) word 0)
+            → (number_of x ≤ number_of (get_or (set words e.word (packed (e.number + 1) e.new)) word 0))
+            × (number_of x ≡ number_of (get_or (set words e.word (packed (e.number + 1) e.new)) word 0) → x ≡ get_or (set words e.word (packed (e.number + 1) e.new)) word 0)
         by_word word x was (inl same) =
-            let now : get_or (set words e.word (word_of (e.number + 1) e.new)) word 0 ≡ word_of (e.number + 1) e.new = ap (λ (k : ℕ). get_or (set words e.word (word_of (e.number + 1) e.new)) k 0) same ∙ written in
-            let number : number_of (get_or (set words e.word (word_of (e.number + 1) e.new)) word 0) ≡ e.number + 1 = ap number_of now ∙ number_of_word_of (e.number + 1) e.new small in
+            let now : get_or (set words e.word (packed (e.number + 1) e.new)) word 0 ≡ packed (e.number + 1) e.new = ap (λ (k : ℕ). get_or (set words e.word (packed (e.number + 1) e.new)) k 0) same ∙ written in
+            let number : number_of (get_or (set words e.word (packed (e.number + 1) e.new)) word 0) ≡ e.number + 1 = ap number_of now ∙ number_of_word_of (e.number + 1) e.new small in
             let before : number_of (get_or words word 0) ≡ e.number = ap (λ (k : ℕ). number_of (get_or words k 0)) same ∙ (kept.leaves.numbers e.word there ∙ sym may.number) in
             let le : number_of x ≤ number_of (get_or words word 0) = was.0 in
             (omega (arith, number, before, le), λ is. absurd (omega (arith, is, number, before, le)))
         by_word word x was (inr other) =
             let P : ℕ → Type 0 = λ y. (number_of x ≤ number_of y) × (number_of x ≡ number_of y → x ≡ y) in
-            subst P (sym (get_or-set_other words e.word word (word_of (e.number + 1) e.new) 0 other)) was
+            subst P (sym (get_or-set_other words e.word word (packed (e.number + 1) e.new) 0 other)) was
 
-    pub grown_kept : KeptBy basis (set words e.word (word_of (e.number + 1) e.new)) (set views id (grown v e)) (h ++ e ∷ [])
+    pub grown_kept : KeptBy basis (set words e.word (packed (e.number + 1) e.new)) (set views id (grown v e)) (h ++ e ∷ [])
     unfolding after
     grown_kept =
-        kept_set basis (set words e.word (word_of (e.number + 1) e.new)) views (h ++ e ∷ []) id v (grown v e) (history_more basis h e kept.history may)
+        kept_set basis (set words e.word (packed (e.number + 1) e.new)) views (h ++ e ∷ []) id v (grown v e) (history_more basis h e kept.history may)
         (leaves_more basis h words e kept.leaves may small) other_fits grown_fits at refl refl kept.apart kept.held
 
     pub grown_follows : Follows (of_caller e.caller v.mine) e

@@ -14,7 +14,7 @@ use Rattle.ticket_table.specs.declared.change.Role.TheVariants.{Draw}
 use Rattle.ticket_table.specs.Words.{number_of}
 use Rattle.ticket_table.specs.History.{Basis, IsHistory, Leaves, count_at, of_caller, has_spent}
 use Rattle.ticket_table.specs.Views.{has, looked}
-use Rattle.ticket_table.specs.Rule.{Fits, AreApart, IsHeld, KeptBy, Kept, Below, Looked}
+use Rattle.ticket_table.specs.Rule.{FitsHistory, AreApart, IsHeld, KeptBy, Kept, Below, Looked}
 use Rattle.ticket_table.proofs.SpentCallers.{below_unspent}
 
 -- one view is changed for another with no more callers
@@ -38,12 +38,12 @@ apart_set views id v w at fewer apart i j a b c ia jb ne ha = first (at_set view
     first (inr other) = third other.0 other.1 (at_set views id j w b jb)
 
 -- each view fits, where one is changed for another that fits
-pub fits_set : (basis : Basis) (words : List ℕ) (views : List View) (changes : List Change) (id : ℕ) (w : View) → ((j : ℕ) (u : View) → j ≢ id → get_elem? views j ≡ some u → Fits basis changes words u) → Fits basis changes words w
-    → (j : ℕ) (u : View) → get_elem? (set views id w) j ≡ some u → Fits basis changes words u
+pub fits_set : (basis : Basis) (words : List ℕ) (views : List View) (changes : List Change) (id : ℕ) (w : View) → ((j : ℕ) (u : View) → j ≢ id → get_elem? views j ≡ some u → FitsHistory basis changes words u) → FitsHistory basis changes words w
+    → (j : ℕ) (u : View) → get_elem? (set views id w) j ≡ some u → FitsHistory basis changes words u
 fits_set basis words views changes id w others this j u e = by (at_set views id j w u e)
   where
-    by : ((j ≡ id) × (w ≡ u)) ⊎ ((j ≢ id) × (get_elem? views j ≡ some u)) → Fits basis changes words u
-    by (inl same) = subst (λ (u : View). Fits basis changes words u) same.1 this
+    by : ((j ≡ id) × (w ≡ u)) ⊎ ((j ≢ id) × (get_elem? views j ≡ some u)) → FitsHistory basis changes words u
+    by (inl same) = subst (λ (u : View). FitsHistory basis changes words u) same.1 this
     by (inr other) = others j u other.0 other.1
 
 -- what stands in a list where it was changed
@@ -65,7 +65,7 @@ held_set views id v w caller at live still held = by (cases_eq held.0 id)
 
 -- the rule with one view changed for another that stands for the same callers
 pub kept_set : (basis : Basis) (words : List ℕ) (views : List View) (changes : List Change) (id : ℕ) (v w : View) → IsHistory basis changes → Leaves basis changes words
-    → ((j : ℕ) (u : View) → j ≢ id → get_elem? views j ≡ some u → Fits basis changes words u) → Fits basis changes words w
+    → ((j : ℕ) (u : View) → j ≢ id → get_elem? views j ≡ some u → FitsHistory basis changes words u) → FitsHistory basis changes words w
     → get_elem? views id ≡ some v → v.live ≡ w.live → v.callers ≡ w.callers → AreApart views → ((caller : ℕ) → caller < basis.terms.callers → IsHeld views caller)
     → KeptBy basis words (set views id w) changes
 kept_set basis words views changes id v w history leaves others this at live callers apart held =
@@ -78,7 +78,7 @@ kept_set basis words views changes id v w history leaves others this at live cal
     }
 
 -- a view fits whose last look is at what the word is now
-pub fits_looked : (basis : Basis) (changes : List Change) (words : List ℕ) (v : View) (i : ℕ) → Fits basis changes words v → Fits basis changes words (looked v i (get_or words i 0))
+pub fits_looked : (basis : Basis) (changes : List Change) (words : List ℕ) (v : View) (i : ℕ) → FitsHistory basis changes words v → FitsHistory basis changes words (looked v i (get_or words i 0))
 fits_looked basis changes words v i fits =
     record {
       same = fits.same;

@@ -8,7 +8,7 @@ use Rattle.ticket_table.specs.declared.change.Role.TheVariants.{Draw, Serve}
 use Rattle.ticket_table.specs.declared.change.Change.{Change}
 use Rattle.ticket_table.specs.declared.change.View.{View}
 use Rattle.ticket_table.specs.declared.change.Note.{Note}
-use Rattle.ticket_table.specs.Words.{number_of, payload_of, word_of}
+use Rattle.ticket_table.specs.Words.{number_of, payload_of, packed}
 use Rattle.ticket_table.specs.History.{Basis, MayFollow, has_spent, left_by, made, Follows}
 use Rattle.ticket_table.specs.Views.{IsAlone, first_caller, grown}
 use Rattle.ticket_table.specs.Rule.{KeptBy, Kept, Counted}
@@ -26,7 +26,7 @@ read_leaves Draw limit number old = by (ltb number limit)
 read_leaves Serve limit number old = refl
 
 -- one more in the upper half
-counted_up : (x : ℕ) → number_of x + 1 < 4294967296 → (x + 4294967296) % 2 ^ 64 ≡ word_of (number_of x + 1) (payload_of x)
+counted_up : (x : ℕ) → number_of x + 1 < 4294967296 → (x + 4294967296) % 2 ^ 64 ≡ packed (number_of x + 1) (payload_of x)
 counted_up x small = omega arith
 
 pub counts : (basis : Basis) (slots id word : ℕ) (me : Me Note View) → word < length basis.first → IsAlone me.0 (first_caller me.0) → me.0.terms.role ≡ Draw
@@ -43,7 +43,7 @@ counts basis slots id word me within alone draw room unspent s kept homes at sma
     let may : MayFollow basis kept.0 e = may_follow basis s.words s.views kept.0 id v kept.1 at word (record { caller = caller; op = Read }) within alone.live mine below quiet in
     let stays : e.new ≡ payload_of x = read_leaves v.terms.role v.terms.limit (number_of x) (payload_of x) in
     let fits : e.new < 4294967296 = omega arith in
-    let written : (x + 4294967296) % 2 ^ 64 ≡ word_of (e.number + 1) e.new = counted_up x (omega arith) ∙ ap (λ (n : ℕ). word_of (number_of x + 1) n) (sym stays) in
+    let written : (x + 4294967296) % 2 ^ 64 ≡ packed (e.number + 1) e.new = counted_up x (omega arith) ∙ ap (λ (n : ℕ). packed (number_of x + 1) n) (sym stays) in
     let P : ℕ → Type 0 = λ y. KeptBy basis (set s.words word y) (set s.views id (grown v e)) (kept.0 ++ e ∷ []) in
     let F : List Change → Type 0 = λ xs. Follows xs e in (
       grown v e,

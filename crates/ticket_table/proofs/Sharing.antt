@@ -13,7 +13,7 @@ use Rattle.ticket_table.specs.declared.change.View.{View}
 use Rattle.ticket_table.specs.declared.change.Terms.{Terms}
 use Rattle.ticket_table.specs.History.{Basis, Leaves, of_caller}
 use Rattle.ticket_table.specs.Views.{has, stock, opened, nobody, together}
-use Rattle.ticket_table.specs.Rule.{Fits, AreApart, IsHeld, Kept}
+use Rattle.ticket_table.specs.Rule.{FitsHistory, AreApart, IsHeld, Kept}
 use Rattle.ticket_table.proofs.Histories.{nothing_yet}
 use Rattle.ticket_table.proofs.Keeps.{fits_set, apart_set, set_there}
 use Rattle.ticket_table.proofs.Places.{at_end}
@@ -49,7 +49,7 @@ module _ (basis : Basis) (small : (word : ℕ) → word < length basis.first →
         payloads = λ word within. let x : ℕ = get_or basis.first word 0 in let below : x < 4294967296 = small word within in let q : ℕ = x / 4294967296 in omega arith;
       }
 
-  opened_fits : Fits basis [] basis.first (opened basis)
+  opened_fits : FitsHistory basis [] basis.first (opened basis)
   opened_fits =
       record {
         same = λ _. refl;
@@ -65,8 +65,8 @@ module _ (basis : Basis) (small : (word : ℕ) → word < length basis.first →
       held : (c : ℕ) → c < basis.terms.callers → IsHeld (opened basis ∷ []) c
       held c below = (0, opened basis, refl, refl, has_counted_all 0 basis.terms.callers c (omega arith) (omega arith))
 
-      fits : (i : ℕ) (v : View) → get_elem? (opened basis ∷ []) i ≡ some v → Fits basis [] basis.first v
-      fits zero v e = subst (λ (u : View). Fits basis [] basis.first u) (some-injective (opened basis) v e) opened_fits
+      fits : (i : ℕ) (v : View) → get_elem? (opened basis ∷ []) i ≡ some v → FitsHistory basis [] basis.first v
+      fits zero v e = subst (λ (u : View). FitsHistory basis [] basis.first u) (some-injective (opened basis) v e) opened_fits
       fits (suc i) v e = absurd (some-ne-none v (sym e))
 
       apart : AreApart (opened basis ∷ [])
@@ -88,8 +88,8 @@ apart_more views w apart new i j a b c ia jb ne is = by (at_end views w a i ia) 
     by (inr new_i) (inr new_j) = absurd (ne (new_i.0 ∙ sym new_j.0))
 
 -- fewer callers with no change yet
-fewer_fits : (basis : Basis) (h : List Change) (words : List ℕ) (terms : Terms) (first count fewer_first fewer_count : ℕ) → Fits basis h words (stock terms first count)
-    → ((c : ℕ) → has (range_with_len fewer_first fewer_count) c ≡ true → has (range_with_len first count) c ≡ true) → Fits basis h words (stock terms fewer_first fewer_count)
+fewer_fits : (basis : Basis) (h : List Change) (words : List ℕ) (terms : Terms) (first count fewer_first fewer_count : ℕ) → FitsHistory basis h words (stock terms first count)
+    → ((c : ℕ) → has (range_with_len fewer_first fewer_count) c ≡ true → has (range_with_len first count) c ≡ true) → FitsHistory basis h words (stock terms fewer_first fewer_count)
 fewer_fits basis h words terms first count fewer_first fewer_count fits fewer =
     record {
       same = fits.same;
@@ -115,7 +115,7 @@ splits_stock basis id terms first rest s kept at = (kept.0, record { history = (
     views : List View
     views = set s.views id (stock terms (first + 1) rest)
 
-    whole : Fits basis kept.0 s.words (stock terms first (suc rest))
+    whole : FitsHistory basis kept.0 s.words (stock terms first (suc rest))
     whole = (kept.1).fits id (stock terms first (suc rest)) at
 
     left_apart : AreApart (set s.views id (stock terms (first + 1) rest))
@@ -146,15 +146,15 @@ splits_stock basis id terms first rest s kept at = (kept.0, record { history = (
             split (or_cases (eqb first c) (has (range_with_len (first + 1) rest) c) (sym (ap (λ (u : View). has u.callers c) is) ∙ before.4))
         by (inr other) = (before.0, before.1, stays before.0 (set_else s.views id before.0 (stock terms (first + 1) rest) other ∙ before.2), before.3, before.4)
 
-    fits : (j : ℕ) (v : View) → get_elem? (set s.views id (stock terms (first + 1) rest) ++ stock terms first 1 ∷ []) j ≡ some v → Fits basis kept.0 s.words v
+    fits : (j : ℕ) (v : View) → get_elem? (set s.views id (stock terms (first + 1) rest) ++ stock terms first 1 ∷ []) j ≡ some v → FitsHistory basis kept.0 s.words v
     fits j v e = by (at_end (set s.views id (stock terms (first + 1) rest)) (stock terms first 1) v j e)
       where
         by : (get_elem? (set s.views id (stock terms (first + 1) rest)) j ≡ some v) ⊎ ((j ≡ length (set s.views id (stock terms (first + 1) rest))) × (stock terms first 1 ≡ v))
-            → Fits basis kept.0 s.words v
+            → FitsHistory basis kept.0 s.words v
         by (inl old) =
             fits_set basis s.words s.views kept.0 id (stock terms (first + 1) rest) (λ k u _ e. (kept.1).fits k u e)
             (fewer_fits basis kept.0 s.words terms first (suc rest) (first + 1) rest whole later) j v old
-        by (inr new) = subst (λ (u : View). Fits basis kept.0 s.words u) new.1 (fewer_fits basis kept.0 s.words terms first (suc rest) first 1 whole alone)
+        by (inr new) = subst (λ (u : View). FitsHistory basis kept.0 s.words u) new.1 (fewer_fits basis kept.0 s.words terms first (suc rest) first 1 whole alone)
 
     apart : AreApart (set s.views id (stock terms (first + 1) rest) ++ stock terms first 1 ∷ [])
     apart = apart_more (set s.views id (stock terms (first + 1) rest)) (stock terms first 1) left_apart disjoint
@@ -180,7 +180,7 @@ has_both xs ys c = list_any-append (λ x. eqb x c) xs ys
 pub of_both : (c : ℕ) (xs ys : List Change) → of_caller c (xs ++ ys) ≡ of_caller c xs ++ of_caller c ys
 of_both c xs ys = filter-append (λ (x : Change). eqb x.caller c) xs ys
 
-module _ (basis : Basis) (h : List Change) (words : List ℕ) (v w : View) (v_fits : Fits basis h words v) (w_fits : Fits basis h words w)
+module _ (basis : Basis) (h : List Change) (words : List ℕ) (v w : View) (v_fits : FitsHistory basis h words v) (w_fits : FitsHistory basis h words w)
     (apart : (c : ℕ) → has v.callers c ≡ true → has w.callers c ≡ false) where
   together_own : (c : ℕ) → has (v.callers ++ w.callers) c ≡ true → of_caller c h ≡ of_caller c (v.mine ++ w.mine)
   together_own c is = by (cases_Bool (has v.callers c))
@@ -192,7 +192,7 @@ module _ (basis : Basis) (h : List Change) (words : List ℕ) (v w : View) (v_fi
           let right : has w.callers c ≡ true = sym (ap (λ (b : Bool). b || has w.callers c) without) ∙ (sym (has_both v.callers w.callers c) ∙ is) in
           w_fits.own c right ∙ sym (ap (λ (xs : List Change). xs ++ of_caller c w.mine) (v_fits.only c without)) ∙ sym (of_both c v.mine w.mine)
 
-  together_fits : Fits basis h words (together v w)
+  together_fits : FitsHistory basis h words (together v w)
   together_fits =
       record {
         same = v_fits.same;
@@ -204,7 +204,7 @@ module _ (basis : Basis) (h : List Change) (words : List ℕ) (v w : View) (v_fi
         last = v_fits.last;
       }
 
-nobody_fits : (basis : Basis) (h : List Change) (words : List ℕ) → Fits basis h words nobody
+nobody_fits : (basis : Basis) (h : List Change) (words : List ℕ) → FitsHistory basis h words nobody
 nobody_fits basis h words =
     record {
       same = λ is. absurd (true≢false (sym is));
@@ -294,11 +294,11 @@ joins basis id v other w live s kept at ne after = (kept.0, record { history = (
           before.4,
         )
 
-    fits : (i : ℕ) (u : View) → get_elem? (set (set s.views id (together v w)) other nobody) i ≡ some u → Fits basis kept.0 s.words u
+    fits : (i : ℕ) (u : View) → get_elem? (set (set s.views id (together v w)) other nobody) i ≡ some u → FitsHistory basis kept.0 s.words u
     fits i u e = by (after_join s.views id other v w i u e)
       where
-        by : After s.views id other v w i u → Fits basis kept.0 s.words u
-        by (spent _ same) = subst (λ (u : View). Fits basis kept.0 s.words u) same (nobody_fits basis kept.0 s.words)
-        by (joined _ same) = subst (λ (u : View). Fits basis kept.0 s.words u) same (together_fits basis kept.0 s.words v w ((kept.1).fits id v at) ((kept.1).fits other w there)
+        by : After s.views id other v w i u → FitsHistory basis kept.0 s.words u
+        by (spent _ same) = subst (λ (u : View). FitsHistory basis kept.0 s.words u) same (nobody_fits basis kept.0 s.words)
+        by (joined _ same) = subst (λ (u : View). FitsHistory basis kept.0 s.words u) same (together_fits basis kept.0 s.words v w ((kept.1).fits id v at) ((kept.1).fits other w there)
             (λ c is. (kept.1).apart id other v w c at there (λ e. ne (sym e)) is))
         by (stayed _ _ old) = (kept.1).fits i u old

@@ -7,7 +7,7 @@ use Rattle.ticket_table.specs.declared.change.Terms.{Terms}
 use Rattle.ticket_table.specs.declared.change.Change.{Change}
 use Rattle.ticket_table.specs.declared.served.Served.{Served}
 use Rattle.ticket_table.specs.declared.served.Served.TheVariants.{Done, NotYet}
-use Rattle.ticket_table.specs.Words.{number_of, word_of}
+use Rattle.ticket_table.specs.Words.{number_of, packed}
 use Rattle.ticket_table.specs.History.{Basis, IsHistory, Leaves, of_caller, has_spent, made}
 
 -- a pass: its table and the table's terms, its caller, the caller's changes so far in order,
@@ -39,7 +39,7 @@ change_made p word number op old = made p.terms p.caller word number op old
 
 -- the pass after one change more, and after these steps in all
 abbrev pub with_change : ℕ → PassSeen → Change → PassSeen
-with_change steps p e = record { table = p.table; terms = p.terms; caller = p.caller; changes = p.changes ++ e ∷ []; last = Some (e.word, word_of (e.number + 1) e.new); steps = steps }
+with_change steps p e = record { table = p.table; terms = p.terms; caller = p.caller; changes = p.changes ++ e ∷ []; last = Some (e.word, packed (e.number + 1) e.new); steps = steps }
 
 -- the pass after a look at a word
 abbrev pub with_look : ℕ → PassSeen → ℕ → ℕ → PassSeen

@@ -20,7 +20,7 @@ abbrev pub basis_of : Setting → Basis
 basis_of setting = record { terms = setting.terms; first = setting.first.items }
 
 -- what a view says is so: it has the history's changes of its callers and no others, and the word that it read last has not gone back
-pub record Fits (basis : Basis) (history : List Change) (words : List ℕ) (v : View) : Type 0 where
+pub record FitsHistory (basis : Basis) (history : List Change) (words : List ℕ) (v : View) : Type 0 where
   pub same : v.live ≡ true → v.terms ≡ basis.terms
   pub bounds : (caller : ℕ) → has v.callers caller ≡ true → caller < basis.terms.callers
   pub own : (caller : ℕ) → has v.callers caller ≡ true → of_caller caller history ≡ of_caller caller v.mine
@@ -41,7 +41,7 @@ IsHeld views caller = (i : ℕ) × (v : View) × (get_elem? views i ≡ some v) 
 pub record KeptBy (basis : Basis) (words : List ℕ) (views : List View) (changes : List Change) : Type 0 where
   pub history : IsHistory basis changes
   pub leaves : Leaves basis changes words
-  pub fits : (i : ℕ) (v : View) → get_elem? views i ≡ some v → Fits basis changes words v
+  pub fits : (i : ℕ) (v : View) → get_elem? views i ≡ some v → FitsHistory basis changes words v
   pub apart : AreApart views
   pub held : (caller : ℕ) → caller < basis.terms.callers → IsHeld views caller
 

@@ -5,7 +5,7 @@ use Rattle.ticket_table.specs.declared.change.Role.TheVariants.{Draw}
 use Rattle.ticket_table.specs.declared.change.Terms.{Terms}
 use Rattle.ticket_table.specs.declared.change.Change.{Change}
 use Rattle.ticket_table.specs.declared.change.View.{View}
-use Rattle.ticket_table.specs.Words.{word_of}
+use Rattle.ticket_table.specs.Words.{packed}
 use Rattle.ticket_table.specs.History.{Basis, of_caller}
 
 -- whether a caller is among these
@@ -43,7 +43,7 @@ looked v word found = looked_at (v.steps + 1) v word found
 
 -- after a change of a word
 abbrev pub grown_at : ℕ → View → Change → View
-grown_at steps v e = record { live = v.live; terms = v.terms; callers = v.callers; mine = v.mine ++ e ∷ []; last = Some (e.word, word_of (e.number + 1) e.new); steps = steps }
+grown_at steps v e = record { live = v.live; terms = v.terms; callers = v.callers; mine = v.mine ++ e ∷ []; last = Some (e.word, packed (e.number + 1) e.new); steps = steps }
 
 abbrev pub grown : View → Change → View
 grown v e = grown_at (v.steps + 1) v e

@@ -10,5 +10,5 @@ abbrev pub payload_of : ℕ → ℕ
 payload_of word = word % 4294967296
 
 -- the word of these two
-abbrev pub word_of : ℕ → ℕ → ℕ
-word_of number payload = number * 4294967296 + payload
+abbrev pub packed : ℕ → ℕ → ℕ
+packed number payload = number * 4294967296 + payload

@@ -12,7 +12,7 @@ ghost use Rattle.ticket_table.specs.Passes.{IfDone, IfNotYet};
 use crate::change::{Note, Setting, View};
 use crate::rule::{Counts, Exchanges, Looks, Tickets};
 use crate::served::Served;
-use crate::word::{HALF, joined, number, payload};
+use crate::word::{HALF, packed, number, payload};
 use atomic_table::{Seat, Shared};
 use rv_execute::{MOST_NUMBERS, Op, apply};
 
@@ -65,7 +65,7 @@ fn exchange(shared: &Words, seat: &mut Place, word: u32, limit: u32, note: &Note
             seat,
             word as usize,
             seen,
-            joined(next + 1, new),
+            packed(next + 1, new),
             note,
         );
         if found == seen {
@@ -118,7 +118,7 @@ pub(crate) fn offer(shared: &Words, seat: &mut Place, word: u32, asked: u32, not
         seat,
         word as usize,
         seen,
-        joined(asked + 1, new),
+        packed(asked + 1, new),
         note,
     );
     if found != seen {

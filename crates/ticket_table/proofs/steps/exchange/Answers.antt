@@ -1,6 +1,6 @@
 use Rattle.std.proofs.Common.{◌≡◌, ℕ, ◌+◌, ◌<◌, sym, ap, subst, ◌∙◌, arith}
 use Rattle.ticket_table.specs.declared.change.Role.TheVariants.{Draw}
-use Rattle.ticket_table.specs.Words.{number_of, payload_of, word_of}
+use Rattle.ticket_table.specs.Words.{number_of, payload_of, packed}
 use Rattle.ticket_table.specs.Rule.{basis_of}
 use Rattle.ticket_table.proofs.Asking.{left_alike, exchanges_after_look}
 use Rattle.ticket_table.proofs.Keeps.{looks}
@@ -21,7 +21,7 @@ compare_exchange_with-found-requires c =
     let terms = c.requires.terms in
     let next : c.number-next.result ≡ number_of seen = c.number-next.ensures in
     let small : new < 4294967296 = omega arith in
-    let written : c.joined.result ≡ word_of (number_of seen + 1) new = c.joined.ensures ∙ ap (λ (n : ℕ). word_of (n + 1) new) next in
+    let written : c.joined.result ≡ packed (number_of seen + 1) new = c.joined.ensures ∙ ap (λ (n : ℕ). packed (n + 1) new) next in
     let below : number_of seen < v.terms.limit + v.terms.callers =
     (let P : ℕ → Type 0 = λ limit. number_of seen < limit + v.terms.callers in subst P (sym terms.1) c.tries.invariant.below) in (
       c.tries.invariant.table ∙ c.requires.place.0,

@@ -1,6 +1,6 @@
 use Rattle.std.proofs.Common.{◌≡◌, ℕ, ◌+◌, ◌<◌, refl, sym, ap, subst, ◌∙◌, arith}
 use Rattle.ticket_table.specs.declared.change.Role.TheVariants.{Serve}
-use Rattle.ticket_table.specs.Words.{number_of, payload_of, word_of}
+use Rattle.ticket_table.specs.Words.{number_of, payload_of, packed}
 use Rattle.ticket_table.specs.Rule.{basis_of}
 use Rattle.ticket_table.proofs.Asking.{left_alike, exchanges_after_look, serves_on, look_as_is}
 use Rattle.ticket_table.proofs.Keeps.{looks}
@@ -21,7 +21,7 @@ compare_exchange_with-found-requires c =
     let terms = c.requires.terms in
     let asked : c.args.asked ≡ number_of seen = sym c.if-number-asked.false ∙ c.number.ensures in
     let small : new < 4294967296 = omega arith in
-    let written : c.joined.result ≡ word_of (number_of seen + 1) new = c.joined.ensures ∙ ap (λ (n : ℕ). word_of (n + 1) new) asked in
+    let written : c.joined.result ≡ packed (number_of seen + 1) new = c.joined.ensures ∙ ap (λ (n : ℕ). packed (n + 1) new) asked in
     let below : number_of seen < v.terms.limit + v.terms.callers =
     (let P : ℕ → Type 0 = λ n. n < v.terms.limit + v.terms.callers in subst P asked terms.1) in
     let found = c.load-seen.ensures in (
