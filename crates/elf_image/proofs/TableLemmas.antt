@@ -5,7 +5,7 @@ use Rattle.std.proofs.lemmas.List.{get_or_append_left}
 use Rattle.std.proofs.Math.Seq.{get_or-append_seam}
 use Rattle.elf_image.specs.Layout.{count_below}
 use Rattle.elf_image.specs.PageTable.{IsMember, IsNextOf, IsTableBelow}
-use Rattle.elf_image.proofs.Counting.{count_below-gap, count_below-in, count_below-mono}
+use Rattle.elf_image.proofs.Counting.{count_below_gap, count_below_in, count_below_mono}
 use Rattle.elf_image.specs.declared.page_table.Permissions.{Permissions}
 
 -- the empty table, below the first page of the set
@@ -14,7 +14,7 @@ unfolding count_below
 table_none set allowed mapped permissions next none empty first =
     let size : length mapped ≡ 0 = ap length none in
     record {
-      counted = size ∙ sym (count_below-gap set 0 next (omega arith) first.none);
+      counted = size ∙ sym (count_below_gap set 0 next (omega arith) first.none);
       members = λ k low. absurd (omega arith);
       size = ap length empty ∙ sym size;
       allows = λ k d low. absurd (omega arith);
@@ -31,7 +31,7 @@ member_further set bound further page place more member = record {
 -- up to the next page of the set
 pub table_gap : (set : ℕ → Bool) (allowed : ℕ → Permissions) (mapped : List ℕ) (permissions : List Permissions) (bound next : ℕ) → IsTableBelow set allowed mapped permissions bound → IsNextOf set bound next → IsTableBelow set allowed mapped permissions next
 table_gap set allowed mapped permissions bound next so_far first = record {
-  counted = so_far.counted ∙ sym (count_below-gap set bound next first.low first.none);
+  counted = so_far.counted ∙ sym (count_below_gap set bound next first.low first.none);
   members = λ k low. member_further set bound next (get_or mapped k 0) k first.low (so_far.members k low);
   size = so_far.size;
   allows = so_far.allows;
@@ -46,7 +46,7 @@ table_more set allowed mapped more permissions wider bound last so_far in_set ad
     let before : (k : ℕ) → k < length mapped → get_or more k 0 ≡ get_or mapped k 0 =
     λ k low. ap (λ (xs : List ℕ). get_or xs k 0) adds ∙ get_or_append_left mapped (bound ∷ []) 0 k low in
     record {
-      counted = size ∙ ap (λ n. n + 1) so_far.counted ∙ sym (count_below-in set bound in_set);
+      counted = size ∙ ap (λ n. n + 1) so_far.counted ∙ sym (count_below_in set bound in_set);
       members = λ k low.
           elim (cases_lt k (length mapped)) [
             | inl lt ↦ subst (λ (page : ℕ). IsMember set (bound + 1) page k) (sym (before k lt))
@@ -83,6 +83,6 @@ table_more set allowed mapped more permissions wider bound last so_far in_set ad
 -- a full table below a member leaves too many
 pub table_full : (set : ℕ → Bool) (allowed : ℕ → Permissions) (mapped : List ℕ) (permissions : List Permissions) (page size : ℕ) → IsTableBelow set allowed mapped permissions page → set page ≡ true → page < 1048576 → size ≡ length mapped → 4096 ≤ size → 4096 < count_below set 1048576
 table_full set allowed mapped permissions page size so_far here low counted full =
-    let one = count_below-in set page here in
-    let more = count_below-mono set (page + 1) 1048576 (omega arith) in
+    let one = count_below_in set page here in
+    let more = count_below_mono set (page + 1) 1048576 (omega arith) in
     omega (arith, so_far.counted)
