@@ -3,7 +3,7 @@ use Rattle.std.proofs.Common.{◌≡◌, ℕ, ◌+◌, ◌<◌, ◌≤◌, true,
 use Rattle.std.specs.Prelude.{IfSome, IsSome, option_to_list}
 use Rattle.bounded_list.specs.Bounded.{Bounded}
 use Rattle.elf_image.specs.Layout.{Layout, is_mapped, words_of}
-use Rattle.elf_image.proofs.Counting.{count_below-le}
+use Rattle.elf_image.proofs.Counting.{count_below_le}
 use Rattle.rv_execute.specs.declared.op.Op.{Op}
 use Rattle.rv_execute.specs.declared.op.Taken.{Taken}
 use Rattle.record_lane.specs.declared.record.Why.{Why}
@@ -48,7 +48,7 @@ use Rattle.inline_tracker.specs.Seats.{local_in, notes_held, Holds, IsOpen, IsSe
 
 words_few : (layout : Layout) → words_of layout ≤ 4294967295
 unfolding words_of
-words_few layout = omega (arith, count_below-le (is_mapped layout) 1048576)
+words_few layout = omega (arith, count_below_le (is_mapped layout) 1048576)
 
 sound_more : (words top : ℕ) (item : Record) → words ≤ 4294967295 → top ≤ 4294967295 → IsSoundRecord words top item → IsSoundRecord 4294967295 4294967295 item
 sound_more words top (Quiet step pc insn faulted) few low sound = sound

@@ -7,7 +7,7 @@ use Rattle.elf_image.specs.Elf.{segments}
 use Rattle.elf_image.specs.Layout.{Layout, layout_of, page_of, is_mapped, count_below, fills, file_byte, byte_of, word_of, word_at, address_of, first_word, fetched, loaded_word, end_of_heap, break_base, stack_top, first_registers}
 use Rattle.elf_image.specs.ImageFault.{Test, first_fault, image_fault, file_tests, map_tests, passes_limit, address_limit, IsAccepted}
 use Rattle.elf_image.specs.declared.segments.Segment.{Segment}
-use Rattle.elf_image.proofs.Counting.{count_below-le}
+use Rattle.elf_image.proofs.Counting.{count_below_le}
 use Rattle.elf_image.proofs.SegmentLemmas.{or_false}
 use Rattle.machine.proofs.ResultRanges.{IsWord}
 use Rattle.machine.proofs.HartRanges.{AreWords, set_words}
@@ -99,7 +99,7 @@ fetched_word layout pc all = some_if _ (word_at layout pc) (word_at_word layout 
 pub word_of_word : (layout : Layout) (address : ℕ) → address < 2 ^ 33 → IsWordIf (word_of layout address)
 unfolding word_of
 word_of_word layout address low =
-    let few : count_below (is_mapped layout) (address / 4096) ≤ address / 4096 = count_below-le (is_mapped layout) (address / 4096) in
+    let few : count_below (is_mapped layout) (address / 4096) ≤ address / 4096 = count_below_le (is_mapped layout) (address / 4096) in
     some_if (is_mapped layout (page_of address)) _ (omega arith)
 
 pub unwrapped_word : (word : Option ℕ) → IsWordIf word → IsWord (unwrap_or word 0)

@@ -10,7 +10,7 @@ use Rattle.elf_image.specs.Elf.{segments, program_headers}
 use Rattle.elf_image.specs.Layout.{Layout, segment_at}
 use Rattle.elf_image.specs.ImageFault.{Test, IsAccepted, first_fault, image_fault, file_tests, identification_tests, header_tests, segment_tests, map_tests}
 use Rattle.elf_image.specs.declared.segments.Segment.{Segment}
-use Rattle.elf_image.proofs.LoadLemmas.{segments-few}
+use Rattle.elf_image.proofs.LoadLemmas.{segments_few}
 use Rattle.trap_report.specs.Digits.{hex}
 use Rattle.trap_report.specs.Fields.{spelled}
 use Rattle.run_cli.specs.MapText.{segment_fields, segment_lines, stack_fields, stack_lines, permission_letters}
@@ -36,7 +36,7 @@ unfolding image_fault
 few_segments image accepted =
     let file : first_fault (file_tests image.bytes image.heap) ≡ None = none_before (file_tests image.bytes image.heap) (map_tests image) accepted.sound in
     let headers : first_fault (identification_tests image.bytes ++ header_tests image.bytes) ≡ None = none_before (identification_tests image.bytes ++ header_tests image.bytes) (segment_tests (length image.bytes) (program_headers image.bytes) (segments image.bytes) image.heap) file in
-    segments-few image.bytes (none_after (identification_tests image.bytes) (header_tests image.bytes) headers)
+    segments_few image.bytes (none_after (identification_tests image.bytes) (header_tests image.bytes) headers)
 
 range_more : (a n : ℕ) → range_with_len a (suc n) ≡ range_with_len a n ++ (a + n) ∷ []
 range_more a zero = ap (λ (k : ℕ). k ∷ []) (omega arith)

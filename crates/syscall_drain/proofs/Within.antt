@@ -2,7 +2,7 @@
 use Rattle.std.proofs.Common.{◌≡◌, ℕ, ◌+◌, ◌*◌, ◌/◌, ◌%◌, ◌^◌, ◌<◌, ◌≤◌, Option, Some, None, Bool, true, false, if◌then◌else◌, refl, sym, subst, arith}
 use Rattle.std.specs.Prelude.{unwrap_or}
 use Rattle.elf_image.specs.Layout.{Layout, is_mapped, count_below, word_of, words_of, page_of}
-use Rattle.elf_image.proofs.Counting.{count_below-lt}
+use Rattle.elf_image.proofs.Counting.{count_below_lt}
 use Rattle.rv_execute.specs.Harts.{HartState}
 use Rattle.syscall_drain.specs.Locals.{Local}
 use Rattle.syscall_drain.specs.Buffers.{buffer_word, word_address}
@@ -22,7 +22,7 @@ unfolding word_of words_of
 word_below layout address word is low =
     let parts = some_from (is_mapped layout (page_of address)) (3 + 1024 * count_below (is_mapped layout) (page_of address) + address % 4096 / 4) word is in
     let inside : address / 4096 < 1048576 = omega arith in
-    let less = count_below-lt (is_mapped layout) (address / 4096) 1048576 parts.0 inside in
+    let less = count_below_lt (is_mapped layout) (address / 4096) 1048576 parts.0 inside in
     omega (arith, less, parts.1)
 
 -- the devices have words
