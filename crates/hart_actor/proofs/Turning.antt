@@ -8,7 +8,6 @@ use Rattle.record_lane.specs.declared.ring_token.RingSender.{RingSender}
 use Rattle.record_lane.specs.declared.lane.Lane.{Lane}
 use Rattle.record_lane.specs.declared.lane_token.Taker.{Taker}
 use Rattle.record_lane.specs.Histories.{IsPrefix}
-use Rattle.record_lane.specs.Rings.{sent_by}
 use Rattle.record_lane.specs.Lanes.{taken_by, seen_by}
 use Rattle.ticket_table.specs.Passes.{TableSeen}
 use Rattle.bounded_list.specs.Bounded.{Bounded}
@@ -22,7 +21,7 @@ use Rattle.hart_actor.specs.declared.turn.HartTurn.TheVariants.{Went, Full, Wait
 use Rattle.hart_actor.specs.Harts.{Hart, HasEnded}
 use Rattle.hart_actor.specs.Objects.{AreOf, IsSameHart}
 use Rattle.hart_actor.specs.Moves.{HartMove, Commit, Send, Resume, IsMove, Leads, Side, side_of, core_with, is_meeting}
-use Rattle.hart_actor.specs.Turns.{size, HasSentSince, HasTakenSince, IsFull, IsHeld, Grows, HasMoved, HasStepped, HasTurned}
+use Rattle.hart_actor.specs.Turns.{size, HasSent, HasSentSince, HasTakenSince, IsFull, IsHeld, Grows, HasMoved, HasStepped, HasTurned}
 use Rattle.hart_actor.specs.declared.turn.Step.TheVariants.{Full as IsBlocked, Waits as IsWaiting, Ended as IsOver}
 
 -- ---- the same actor
@@ -62,9 +61,9 @@ grows_more false false a b c first second = second ∙ first
 
 sent_more : (a b c : RingSender Record) → HasSentSince a b → HasSentSince b c → HasSentSince a c
 sent_more a b c (inl first) (inl second) = inl (second ∙ first)
-sent_more a b c (inl first) (inr second) = inr (omega (arith, second, ap (λ s. length (sent_by s)) first))
-sent_more a b c (inr first) (inl second) = inr (omega (arith, first, ap (λ s. length (sent_by s)) second))
-sent_more a b c (inr first) (inr second) = inr (omega (arith, first, second))
+sent_more a b c (inl first) (inr second) = inr (subst (λ (s : RingSender Record). HasSent s c) first second)
+sent_more a b c (inr first) (inl second) = inr (subst (λ (s : RingSender Record). HasSent a s) (sym second) first)
+sent_more a b c (inr first) (inr second) = inr (omega (arith, first.0, second.0), omega (arith, first.1, second.1))
 
 taken_more : (a b c : Taker Reply) → HasTakenSince a b → HasTakenSince b c → HasTakenSince a c
 taken_more a b c (inl first) (inl second) = inl (second ∙ first)

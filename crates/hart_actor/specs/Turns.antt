@@ -7,7 +7,7 @@ use Rattle.record_lane.specs.declared.ring_token.RingSender.{RingSender}
 use Rattle.record_lane.specs.declared.lane.Lane.{Lane}
 use Rattle.record_lane.specs.declared.lane_token.Taker.{Taker}
 use Rattle.record_lane.specs.Histories.{IsPrefix}
-use Rattle.record_lane.specs.Rings.{sent_by, WasFull}
+use Rattle.record_lane.specs.Rings.{sent_by, sender_looks, WasFull}
 use Rattle.record_lane.specs.Lanes.{taken_by, seen_by, WasEmpty}
 use Rattle.hart_actor.specs.declared.stage.Stage.TheVariants.{Going}
 use Rattle.hart_actor.specs.declared.turn.Step.{Step}
@@ -21,14 +21,18 @@ use Rattle.hart_actor.specs.Moves.{HartMove, IsMove, side_of, is_meeting}
 abbrev pub size : Hart → ℕ
 size h = length h.log.items + (length (sent_by h.sender) + length (taken_by h.taker))
 
--- a token that was not used, or sent or took an item
+-- a token that sent items, and looked at the ring once for each
+abbrev pub HasSent : RingSender Record → RingSender Record → Type 0
+HasSent old new = (length (sent_by old) < length (sent_by new)) × (sender_looks new + length (sent_by old) ≡ sender_looks old + length (sent_by new))
+
+-- a token that was not used, or sent or took items
 abbrev pub HasSentSince : RingSender Record → RingSender Record → Type 0
-HasSentSince old new = (new ≡ old) ⊎ (length (sent_by old) < length (sent_by new))
+HasSentSince old new = (new ≡ old) ⊎ HasSent old new
 
 abbrev pub HasTakenSince : Taker Reply → Taker Reply → Type 0
 HasTakenSince old new = (new ≡ old) ⊎ ((length (taken_by old) < length (taken_by new)) × IsPrefix (taken_by new) (seen_by new))
 
--- since its last send in the turn, or since the turn's begin, the sender found the ring full
+-- since its last send in the turn, or since the turn's begin, the sender found the ring full, by one look more than it sent items
 abbrev pub WasFullSince : Ring Record → RingSender Record → RingSender Record → Type 0
 WasFullSince items old new = (sender : RingSender Record) × HasSentSince old sender × (sent_by new ≡ sent_by sender) × WasFull items sender new
 
