@@ -6,6 +6,7 @@ use Rattle.record_lane.specs.Sound.{IsSoundRecord}
 use Rattle.record_lane.specs.Rings.{sent_by}
 use Rattle.record_lane.specs.Lanes.{taken_by}
 use Rattle.ticket_table.specs.Passes.{is_spent}
+use Rattle.syscall_drain.specs.declared.limits.TheConstants.{MOST_BUDGET}
 use Rattle.syscall_drain.specs.Programs.{Program}
 use Rattle.syscall_drain.specs.Locals.{Local}
 use Rattle.syscall_drain.specs.Units.{next_ask}
@@ -29,7 +30,7 @@ AtStage program l Closed = IsSome l.ending
 -- what it keeps has room for all units of the budget
 pub record HasRoom (h : Hart) : Type 0 where
   pub spent : h.local.units ≤ h.budget
-  pub most : h.budget ≤ 1048576
+  pub most : h.budget ≤ MOST_BUDGET
   pub log : (length h.log.items ≡ h.local.units) × (h.log.room ≡ h.budget)
   pub notes : (length h.notes.items ≤ h.local.units) × (h.notes.room ≡ h.budget)
   pub pieces : (length h.pieces.items ≤ h.local.units) × (h.pieces.room ≡ h.budget)

@@ -27,6 +27,7 @@ use rv_execute::Op;
 use std::alloc::Global;
 use std::marker::Model;
 use std::sync::Wait;
+use syscall_drain::limits::MOST_BUDGET;
 use syscall_drain::{Answer, CoreAsk, CoreState, Guest, NextUnit};
 use word_stores::{Pass, SharedMemory};
 
@@ -99,7 +100,7 @@ impl HartActor {
         taker: Taker<Reply>,
     ) -> Result<HartActor, NoMemory>
         requires core { core < guest.now.layout.cores }
-        requires budget { (1 ≤ budget) × (budget ≤ 1048576) }
+        requires budget { (1 ≤ budget) × (budget ≤ MOST_BUDGET) }
         requires caller { pass.caller ≡ core }
         requires numbers { 0 < pass.terms.limit + pass.terms.callers }
         requires new { (pass.changes ≡ []) × (sent_by sender ≡ []) × (taken_by taker ≡ []) }

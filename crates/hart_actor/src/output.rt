@@ -4,6 +4,7 @@ ghost use Rattle.syscall_drain.specs.Pieces.{bytes_placed};
 ghost use Rattle.hart_actor.specs.Harts.{size_placed};
 
 use order_core::{Bytes, Pieces};
+use syscall_drain::limits::MOST_BYTES;
 
 /// Appends bytes to the output.
 fn append(output: &mut Bytes, bytes: &[u8])
@@ -17,7 +18,7 @@ fn append(output: &mut Bytes, bytes: &[u8])
 
 /// Puts out the bytes that a core gathered, where it claimed a place for them.
 pub(crate) fn put_out(output: &mut Bytes, pieces: &mut Pieces, gathered: &[u8], place: Option<u32>)
-    requires few { length gathered.now ≤ 4096 }
+    requires few { length gathered.now ≤ MOST_BYTES }
     requires room { length output.old.items + length (bytes_placed place gathered.now) ≤ output.old.room }
     requires pieces { length pieces.old.items < pieces.old.room }
     ensures output { output.new ≡ record output.old { items = output.old.items ++ bytes_placed place gathered.now } }

@@ -23,9 +23,10 @@ use crate::finished::CoreOutcome;
 use crate::memory::Cell;
 use crate::seat::Seat;
 use crate::setup::Setup;
+use machine::limits::MOST_UNITS;
 use order_core::{Access, Entry};
 use record_lane::{CallNote, Notes, Record, Reply};
-use rv_execute::Op;
+use rv_execute::{MOST_NUMBERS, Op};
 use syscall_drain::{Answer, Guest, Made, NextUnit};
 use tag_policy::Policy;
 use tag_registers::{TagAsk, TagFile};
@@ -37,7 +38,7 @@ const NO_ACCESS: Entry = Entry { touch: None };
 fn spend(seat: &mut Seat, guest: &Guest, unit: NextUnit, given: Answer, entry: Entry) -> Made
     requires unit { IsNextUnit guest.now (local_in seat.old) unit }
     requires asked { Fits unit.ask given }
-    requires numbered { (taken_of given).number < 4294967294 }
+    requires numbered { (taken_of given).number < MOST_NUMBERS }
     requires room { length seat.old.log.items < seat.old.log.room }
     ensures spent { HasSpent guest.now seat.old.state seat.new.state given }
     ensures same { SameButSpent seat.old seat.new entry }
@@ -193,7 +194,7 @@ pub(crate) fn take(
     requires unit { IsNextUnit setup.now.program (local_in seat.old) unit }
     requires asked { unit.ask ≡ Touches word op }
     requires sound { IsSound (local_in seat.old) }
-    requires few { cell.old.count ≤ 8388608 }
+    requires few { cell.old.count ≤ MOST_UNITS }
     requires range { cell.old.tag < tags_below setup.now.policy.version }
     ensures core { (w : Word) → cell_at w ≡ cell.old → core_in seat.new ≡ took setup.now (core_in seat.old) w }
     ensures cell { (w : Word) → cell_at w ≡ cell.old → cell.new ≡ cell_at (left setup.now (core_in seat.old) w) }

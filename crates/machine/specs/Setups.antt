@@ -2,7 +2,10 @@
 use Rattle.std.specs.Prelude.{ℕ, ◌+◌, ◌*◌, ◌≤◌, length}
 use Rattle.elf_image.specs.ImageFault.{IsAccepted}
 use Rattle.tag_policy.specs.Rules.{PolicySeen}
+use Rattle.rv_execute.specs.declared.op.TheConstants.{MOST_NUMBERS}
+use Rattle.syscall_drain.specs.declared.limits.TheConstants.{MOST_BUDGET, MOST_INPUT}
 use Rattle.syscall_drain.specs.Programs.{Program}
+use Rattle.machine.specs.declared.limits.TheConstants.{MOST_UNITS}
 
 pub record Setup : Type 0 where
   pub program : Program
@@ -16,10 +19,10 @@ core_count s = s.program.layout.cores
 -- the numbers of a setup are in their ranges
 pub record IsSetup (s : Setup) : Type 0 where
   pub image : IsAccepted s.program.layout
-  pub input : length s.program.input ≤ 16777216
+  pub input : length s.program.input ≤ MOST_INPUT
   pub policies : length s.policy.rules ≤ 4
   pub some_budget : 1 ≤ s.budget
-  pub most_budget : s.budget ≤ 1048576
-  pub most_units : core_count s * s.budget ≤ 8388608
+  pub most_budget : s.budget ≤ MOST_BUDGET
+  pub most_units : core_count s * s.budget ≤ MOST_UNITS
   pub some_limit : 1 ≤ s.limit
-  pub most_limit : s.limit + core_count s ≤ 4294967294
+  pub most_limit : s.limit + core_count s ≤ MOST_NUMBERS

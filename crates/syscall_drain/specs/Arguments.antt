@@ -1,9 +1,9 @@
--- The arguments of a system call, and the results of one that is refused (numbers and results as on RISC-V Linux; that one call moves at most 4,096 bytes is this project's own).
+-- The arguments of a system call, and the results of one that is refused (numbers and results as on RISC-V Linux; how many bytes one call moves at most is this project's own).
 use Rattle.std.specs.Prelude.{ℕ, ◌+◌, min, Bool, ◌||◌, not, nat_lt}
 use Rattle.std.specs.List.{list_any, range_with_len}
 use Rattle.elf_image.specs.Layout.{Layout, is_mapped, page_of}
 use Rattle.rv_execute.specs.Harts.{HartState, reg}
-use Rattle.syscall_drain.specs.declared.gathered.TheConstants.{MOST_BYTES}
+use Rattle.syscall_drain.specs.declared.limits.TheConstants.{MOST_BYTES}
 
 -- a0: a descriptor, a status or a break
 abbrev pub first_argument : HartState → ℕ

@@ -19,7 +19,7 @@ use crate::read_call::read_next;
 use crate::task::{AccessReason, QuietReason, Task};
 use crate::write_call::{WriteStage, write_next};
 use record_lane::MeetKind;
-use rv_execute::{Op, Taken, apply, resume};
+use rv_execute::{MOST_NUMBERS, Op, Taken, apply, resume};
 
 impl LocalCore {
     fn finish(&mut self, end: End)
@@ -77,7 +77,7 @@ impl LocalCore {
     fn access(&mut self, guest: &Guest, op: Op, reason: AccessReason, taken: Taken)
         requires phase { IsSoundPhase (state_of self.old.hart) self.old.gathered self.old.phase }
         requires asked { IsSoundAccess (state_of self.old.hart) reason }
-        requires numbered { taken.number < 4294967294 }
+        requires numbered { taken.number < MOST_NUMBERS }
         ensures step { local_seen self.new ≡ after_access guest.now (local_seen self.old) op taken reason }
         ensures units { self.new.units ≡ self.old.units }
     {
@@ -125,7 +125,7 @@ impl LocalCore {
     pub fn go_on(&mut self, guest: &Guest, task: Task, given: Answer)
         requires sound { IsSound (local_seen self.old) }
         requires asked { (words : ℕ) × IsSoundTask words (state_of self.old.hart) task }
-        requires numbered { (taken_of given).number < 4294967294 }
+        requires numbered { (taken_of given).number < MOST_NUMBERS }
         ensures step { local_seen self.new ≡ after_task guest.now (local_seen self.old) task given }
         ensures units { self.new.units ≡ self.old.units }
     {
@@ -167,7 +167,7 @@ impl LocalCore {
         requires sound { IsSound (local_seen self.old) }
         requires task { task ≡ task_of guest.now (local_seen self.old) }
         requires asked { (words : ℕ) × IsSoundTask words (state_of self.old.hart) task }
-        requires numbered { (taken_of given).number < 4294967294 }
+        requires numbered { (taken_of given).number < MOST_NUMBERS }
         requires units { self.old.units < 4294967295 }
         ensures { local_seen self.new ≡ answered guest.now budget (local_seen self.old) given }
     {

@@ -4,7 +4,7 @@ ghost use Rattle.rv_execute.specs.Harts.{state_of};
 ghost use Rattle.syscall_drain.specs.Arguments.{first_argument, buffer_start, byte_count, call_number};
 
 use crate::buffer::Buffer;
-use crate::gathered::MOST_BYTES;
+use crate::limits::MOST_BYTES;
 use rv_execute::Hart;
 
 /// The first argument of a call: a descriptor, a status or a break.
@@ -24,7 +24,7 @@ pub(crate) fn call_number(hart: &Hart) -> u32
 /// The count of bytes that a read or a write call is to move.
 pub(crate) fn byte_count(hart: &Hart) -> u32
     ensures value { result ≡ byte_count (state_of hart.now) }
-    ensures few { result ≤ 4096 }
+    ensures few { result ≤ MOST_BYTES }
 {
     hart.regs[12].min(MOST_BYTES)
 }
@@ -33,7 +33,7 @@ pub(crate) fn byte_count(hart: &Hart) -> u32
 pub(crate) fn call_buffer(hart: &Hart) -> Buffer
     ensures start { result.start ≡ buffer_start (state_of hart.now) }
     ensures count { result.count ≡ byte_count (state_of hart.now) }
-    ensures few { result.count ≤ 4096 }
+    ensures few { result.count ≤ MOST_BYTES }
 {
     Buffer {
         start: hart.regs[11],

@@ -4,6 +4,7 @@ ghost use Rattle.elf_image.specs.Layout.{word_of, words_of};
 ghost use Rattle.rv_decode.specs.Four.{bit_value};
 ghost use Rattle.syscall_drain.specs.Buffers.{word_count, word_address, buffer_word, place_of, covers, buffer_bytes, word_from, buffer_mask, buffer_value, fill};
 
+use crate::limits::MOST_BYTES;
 use elf_image::Image;
 use rv_execute::Op;
 
@@ -26,7 +27,7 @@ pub fn word_of(image: &Image, address: u32) -> Option<u32>
 /// The number of a word of a buffer.
 #[tactic(auto, using(crate::proofs::Within::some_words))]
 pub fn buffer_word(image: &Image, buffer: Buffer, index: u32) -> u32
-    requires few { buffer.count ≤ 4096 }
+    requires few { buffer.count ≤ MOST_BYTES }
     requires fits { buffer.start + buffer.count ≤ 4294967296 }
     requires inside { index < word_count buffer.start buffer.count }
     ensures value { result ≡ buffer_word image.now buffer.start index }
@@ -41,7 +42,7 @@ pub fn buffer_word(image: &Image, buffer: Buffer, index: u32) -> u32
 impl Buffer {
     /// How many words have a byte of the buffer.
     pub fn words(self) -> u32
-        requires { self.count ≤ 4096 }
+        requires { self.count ≤ MOST_BYTES }
         ensures { result ≡ word_count self.start self.count }
     {
         (self.start % 4 + self.count + 3) / 4
@@ -57,7 +58,7 @@ impl Buffer {
 
     /// Whether the buffer has byte `j` of a word.
     pub fn covers(self, index: u32, j: u32) -> bool
-        requires few { self.count ≤ 4096 }
+        requires few { self.count ≤ MOST_BYTES }
         requires low { index ≤ 1024 }
         requires byte { j < 4 }
         ensures { result ≡ covers self.start self.count index j }
@@ -67,7 +68,7 @@ impl Buffer {
     }
 
     fn bit(self, index: u32, j: u32) -> u8
-        requires few { self.count ≤ 4096 }
+        requires few { self.count ≤ MOST_BYTES }
         requires low { index ≤ 1024 }
         requires byte { j < 4 }
         ensures value { result ≡ bit_value (covers self.start self.count index j) }
@@ -78,7 +79,7 @@ impl Buffer {
 
     /// The buffer's bytes in a word, a bit for each.
     pub fn bytes(self, index: u32) -> u8
-        requires few { self.count ≤ 4096 }
+        requires few { self.count ≤ MOST_BYTES }
         requires low { index ≤ 1024 }
         ensures value { result ≡ buffer_bytes self.start self.count index }
         ensures small { result < 16 }
@@ -90,7 +91,7 @@ impl Buffer {
     }
 
     fn mask_byte(self, index: u32, j: u32) -> u32
-        requires few { self.count ≤ 4096 }
+        requires few { self.count ≤ MOST_BYTES }
         requires low { index ≤ 1024 }
         requires byte { j < 4 }
         ensures value { result ≡ (if covers self.start self.count index j then 255 else 0) }
@@ -101,7 +102,7 @@ impl Buffer {
 
     /// The mask of the buffer's bytes in a word.
     pub fn mask(self, index: u32) -> u32
-        requires few { self.count ≤ 4096 }
+        requires few { self.count ≤ MOST_BYTES }
         requires low { index ≤ 1024 }
         ensures { result ≡ buffer_mask self.start self.count index }
     {
@@ -112,7 +113,7 @@ impl Buffer {
     }
 
     fn value_byte(self, index: u32, j: u32, input: &[u8], position: u32) -> u32
-        requires few { self.count ≤ 4096 }
+        requires few { self.count ≤ MOST_BYTES }
         requires low { index ≤ 1024 }
         requires byte { j < 4 }
         ensures value { result ≡ (if covers self.start self.count index j then slice_index input.now (position + (place_of index j - self.start % 4)) else 0) }
@@ -128,7 +129,7 @@ impl Buffer {
 
     /// The bytes of the input from a position on, as they stand in a word of the buffer.
     pub fn value(self, index: u32, input: &[u8], position: u32) -> u32
-        requires few { self.count ≤ 4096 }
+        requires few { self.count ≤ MOST_BYTES }
         requires low { index ≤ 1024 }
         ensures { result ≡ buffer_value self.start self.count index input.now position }
     {
@@ -140,7 +141,7 @@ impl Buffer {
 
     /// The store of a read call to a word of its buffer, of the input's bytes from a position on.
     pub fn fill(self, index: u32, input: &[u8], position: u32) -> Op
-        requires few { self.count ≤ 4096 }
+        requires few { self.count ≤ MOST_BYTES }
         requires low { index ≤ 1024 }
         ensures { result ≡ fill self.start self.count index input.now position }
     {

@@ -4,6 +4,7 @@ ghost use Rattle.std.specs.Option.{ForNone};
 ghost use Rattle.elf_image.specs.Layout.{stack_top};
 ghost use Rattle.rv_execute.specs.Harts.{state_of};
 ghost use Rattle.record_lane.specs.Sound.{IsSoundRecord};
+ghost use Rattle.syscall_drain.specs.declared.limits.TheConstants.{MOST_BUDGET};
 ghost use Rattle.syscall_drain.specs.Locals.{opening_hart};
 ghost use Rattle.syscall_drain.specs.Sound.{IsSoundPhase};
 ghost use Rattle.syscall_drain.specs.SoundProps.{phase_prop};
@@ -13,10 +14,11 @@ use crate::ask::{Answer, Made, NextUnit};
 use crate::end::End;
 use crate::gathered::Gathered;
 use crate::guest::Guest;
+use crate::limits::{MOST_BUDGET, MOST_BYTES};
 use crate::local_core::LocalCore;
 use crate::phase::Phase;
 use elf_image::Image;
-use rv_execute::{Hart, Op};
+use rv_execute::{Hart, MOST_NUMBERS, Op};
 
 /// One core of a guest, but for its tags. It asks for each unit, and goes on by the answer.
 #[derive(Drop)]
@@ -24,7 +26,7 @@ pub struct CoreState {
     core: u8,
     budget: u32,
     local: LocalCore,
-    ghost most: { budget ≤ 1048576 },
+    ghost most: { budget ≤ MOST_BUDGET },
     ghost spent: { local.units ≤ budget },
     ghost going: { ForNone local.end (local.units < budget) },
     ghost sound: { IsSoundPhase (state_of local.hart) local.gathered local.phase } by { phase_prop (state_of local.hart) local.gathered local.phase },
@@ -67,7 +69,7 @@ impl CoreState {
     pub fn create(core: u8, guest: &Guest, budget: u32) -> CoreState
         requires core { core < guest.now.layout.cores }
         requires some { 1 ≤ budget }
-        requires most { budget ≤ 1048576 }
+        requires most { budget ≤ MOST_BUDGET }
         ensures opening { local_of result ≡ opening_local guest.now core }
         ensures budget { budget_of result ≡ budget }
         ensures core { core_of result ≡ core }
@@ -99,7 +101,7 @@ impl CoreState {
     fn advance(&mut self, guest: &Guest, unit: NextUnit, given: Answer)
         requires unit { IsNextUnit guest.now (local_of self.old) unit }
         requires asked { Fits unit.ask given }
-        requires numbered { (taken_of given).number < 4294967294 }
+        requires numbered { (taken_of given).number < MOST_NUMBERS }
         ensures step { local_of self.new ≡ answered guest.now (budget_of self.old) (local_of self.old) given }
         ensures budget { budget_of self.new ≡ budget_of self.old }
         ensures core { core_of self.new ≡ core_of self.old }
@@ -111,7 +113,7 @@ impl CoreState {
     pub fn spend(&mut self, guest: &Guest, unit: NextUnit, given: Answer) -> Option<u32>
         requires unit { IsNextUnit guest.now (local_of self.old) unit }
         requires asked { Fits unit.ask given }
-        requires numbered { (taken_of given).number < 4294967294 }
+        requires numbered { (taken_of given).number < MOST_NUMBERS }
         ensures spent { HasSpent guest.now self.old self.new given }
         ensures placed { result ≡ placed guest.now (local_of self.old) given }
         ensures output { PlacesBytes guest.now (local_of self.old) (local_of self.new) result }
@@ -124,7 +126,7 @@ impl CoreState {
     pub fn answer(&mut self, guest: &Guest, unit: NextUnit, given: Answer) -> Made
         requires unit { IsNextUnit guest.now (local_of self.old) unit }
         requires asked { Fits unit.ask given }
-        requires numbered { (taken_of given).number < 4294967294 }
+        requires numbered { (taken_of given).number < MOST_NUMBERS }
         ensures spent { HasSpent guest.now self.old self.new given }
         ensures item { result.item ≡ item_made unit.ask (unit_record guest.now (local_of self.old) given) }
         ensures sound { (top : ℕ) → (taken_of given).number < top → IfSome result.item (IsSoundRecord (words_of guest.now.layout) top) }
@@ -147,7 +149,7 @@ impl CoreState {
     pub fn units(&self) -> u32
         ensures units { result ≡ (local_of self.now).units }
         ensures within { result ≤ budget_of self.now }
-        ensures most { result ≤ 1048576 }
+        ensures most { result ≤ MOST_BUDGET }
     {
         self.local.units
     }
@@ -155,7 +157,7 @@ impl CoreState {
     /// The bytes that its last write call has gathered.
     pub fn gathered(&self) -> &[u8]
         ensures bytes { result.now ≡ (local_of self.now).gathered }
-        ensures few { length result.now ≤ 4096 }
+        ensures few { length result.now ≤ MOST_BYTES }
     {
         self.local.gathered.as_slice()
     }

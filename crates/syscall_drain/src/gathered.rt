@@ -3,26 +3,28 @@ ghost use Rattle.std.specs.Prelude.{◌≡◌, ◌<◌, ◌≤◌, ◌+◌, ◌-
 ghost use Rattle.syscall_drain.specs.Buffers.{covers, gather, byte_if};
 
 use crate::buffer::Buffer;
+use crate::limits::MOST_BYTES;
 use std::marker::Model;
 
-/// The most bytes that one call moves.
-pub const MOST_BYTES: u32 = 4096;
+/// The bytes that a call can gather.
+const ROOM: usize = MOST_BYTES as usize;
 
-/// The bytes that a write call gathered: at most 4,096.
+/// The bytes that a write call gathered.
 #[derive(Drop)]
 pub struct Gathered {
-    bytes: [u8; 4096],
+    bytes: [u8; ROOM],
     length: usize,
 }
 
 impl Model for Gathered {
     ghost use Rattle.std.specs.Prelude.{◌≤◌, ℕ, List, take};
+    ghost use Rattle.syscall_drain.specs.declared.limits.TheConstants.{MOST_BYTES};
 
     ghost Value = { List ℕ };
 
     ghost view = { λ gathered. take gathered.length gathered.bytes };
 
-    ghost invariant = { λ gathered. gathered.length ≤ 4096 };
+    ghost invariant = { λ gathered. gathered.length ≤ MOST_BYTES };
 }
 
 /// A byte of a word, by its place from the lowest on.
@@ -44,7 +46,7 @@ impl Gathered {
         ensures { result ≡ [] }
     {
         Gathered {
-            bytes: [0; 4096],
+            bytes: [0; ROOM],
             length: 0,
         }
     }
@@ -52,7 +54,7 @@ impl Gathered {
     /// The bytes, in the order in which they were gathered.
     pub fn as_slice(&self) -> &[u8]
         ensures bytes { result.now ≡ self.now }
-        ensures few { length result.now ≤ 4096 }
+        ensures few { length result.now ≤ MOST_BYTES }
     {
         &self.bytes[..self.length]
     }
@@ -66,7 +68,7 @@ impl Gathered {
 
     /// Adds a byte at the end.
     fn push(&mut self, byte: u8)
-        requires { length self.old < 4096 }
+        requires { length self.old < MOST_BYTES }
         ensures { self.new ≡ self.old ++ byte ∷ [] }
     {
         self.bytes[self.length] = byte;
@@ -75,7 +77,7 @@ impl Gathered {
 
     /// Adds a byte of a word that was read, where the buffer has it.
     fn gather_byte(&mut self, buffer: Buffer, index: u32, j: u32, word: u32)
-        requires few { buffer.count ≤ 4096 }
+        requires few { buffer.count ≤ MOST_BYTES }
         requires low { index ≤ 1024 }
         requires byte { j < 4 }
         requires before { length self.old ≡ min (4 * index + j) (buffer.start % 4 + buffer.count) - buffer.start % 4 }
@@ -89,7 +91,7 @@ impl Gathered {
 
     /// Adds the buffer's bytes of a word that was read.
     pub fn gather(&mut self, buffer: Buffer, index: u32, word: u32)
-        requires few { buffer.count ≤ 4096 }
+        requires few { buffer.count ≤ MOST_BYTES }
         requires low { index ≤ 1024 }
         requires before { length self.old ≡ min (4 * index) (buffer.start % 4 + buffer.count) - buffer.start % 4 }
         ensures { self.new ≡ self.old ++ gather buffer.start buffer.count index word }

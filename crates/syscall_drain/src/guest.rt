@@ -1,9 +1,10 @@
 ghost use Rattle.std.specs.Prelude.{◌≡◌, ◌≤◌, length};
 
+use crate::limits::MOST_INPUT;
 use elf_image::Image;
 use std::marker::Model;
 
-/// A program and its input: at most 16,777,216 bytes.
+/// A program and its input.
 #[derive(Drop)]
 pub struct Guest {
     image: Image,
@@ -12,19 +13,20 @@ pub struct Guest {
 
 impl Model for Guest {
     ghost use Rattle.std.specs.Prelude.{◌≤◌, length};
+    ghost use Rattle.syscall_drain.specs.declared.limits.TheConstants.{MOST_INPUT};
     ghost use Rattle.syscall_drain.specs.Programs.{Program};
 
     ghost Value = { Program };
 
     ghost view = { λ guest. record { layout = guest.image; input = guest.input.items } };
 
-    ghost invariant = { λ guest. length guest.input.items ≤ 16777216 };
+    ghost invariant = { λ guest. length guest.input.items ≤ MOST_INPUT };
 }
 
 impl Guest {
-    /// A program with its input, at most 16,777,216 bytes.
+    /// A program with its input.
     pub fn new(image: Image, input: Vec<u8>) -> Guest
-        requires { length input.items ≤ 16777216 }
+        requires { length input.items ≤ MOST_INPUT }
         ensures { result ≡ record { layout = image; input = input.items } }
     {
         Guest { image, input }
@@ -40,7 +42,7 @@ impl Guest {
     /// The bytes that its read calls give.
     pub fn input(&self) -> &[u8]
         ensures bytes { result.now ≡ self.now.input }
-        ensures within { length result.now ≤ 16777216 }
+        ensures within { length result.now ≤ MOST_INPUT }
     {
         self.input.as_slice()
     }

@@ -13,6 +13,7 @@ mod end;
 mod gathered;
 mod guest;
 mod instruction;
+pub mod limits;
 mod local_core;
 mod phase;
 mod read_call;

@@ -11,6 +11,7 @@ use crate::arguments::{byte_count, call_buffer, first_argument};
 use crate::buffer::{Buffer, buffer_word};
 use crate::decision::{BAD_ADDRESS, BAD_DESCRIPTOR};
 use crate::guest::Guest;
+use crate::limits::MOST_BYTES;
 use crate::phase::Phase;
 use crate::task::{AccessReason, Task};
 use elf_image::Image;
@@ -31,7 +32,7 @@ pub(crate) enum ReadStage {
 #[tactic(auto, using(crate::proofs::Pages::call_tests))]
 fn has_unwritable(image: &Image, buffer: Buffer) -> bool
     requires some { 0 < buffer.count }
-    requires few { buffer.count ≤ 4096 }
+    requires few { buffer.count ≤ MOST_BYTES }
     ensures { result ≡ fails_at (is_writable image.now) buffer.start buffer.count }
 {
     match buffer.start.checked_add(buffer.count - 1) {
@@ -119,7 +120,7 @@ fn claimed(guest: &Guest, hart: &Hart, position: u32) -> Phase
 
 /// The phase after a store.
 fn stored(hart: &Hart, index: u32, start: u32, count: u32) -> Phase
-    requires few { count ≤ 4096 }
+    requires few { count ≤ MOST_BYTES }
     requires low { index ≤ 1024 }
     ensures { result ≡ store_after (state_of hart.now) index start count }
 {

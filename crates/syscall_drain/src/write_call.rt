@@ -12,6 +12,7 @@ use crate::buffer::{Buffer, buffer_word};
 use crate::decision::{BAD_ADDRESS, BAD_DESCRIPTOR};
 use crate::gathered::Gathered;
 use crate::guest::Guest;
+use crate::limits::MOST_BYTES;
 use crate::phase::Phase;
 use crate::task::{AccessReason, Task};
 use elf_image::Image;
@@ -41,7 +42,7 @@ fn is_mapped(image: &Image, address: u32) -> bool
 #[tactic(auto, using(crate::proofs::Pages::call_tests))]
 fn has_unmapped(image: &Image, buffer: Buffer) -> bool
     requires some { 0 < buffer.count }
-    requires few { buffer.count ≤ 4096 }
+    requires few { buffer.count ≤ MOST_BYTES }
     ensures { result ≡ fails_at (is_mapped_at image.now) buffer.start buffer.count }
 {
     match buffer.start.checked_add(buffer.count - 1) {
