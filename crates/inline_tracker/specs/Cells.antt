@@ -7,11 +7,15 @@ use Rattle.rv_execute.specs.Payloads.{changed}
 use Rattle.machine.specs.States.{Word}
 use Rattle.inline_tracker.specs.declared.memory.Cell.{Cell}
 
+-- a word before its first access, and that of an image
+abbrev pub untouched : ℕ → Cell
+untouched payload = record { payload = payload; count = 0; tag = 0 }
+
 abbrev pub first_cell : Layout → ℕ → Cell
-first_cell layout word = record { payload = first_word layout word; count = 0; tag = 0 }
+first_cell layout word = untouched (first_word layout word)
 
 abbrev pub no_cell : Cell
-no_cell = record { payload = 0; count = 0; tag = 0 }
+no_cell = untouched 0
 
 abbrev pub cell_of : List Cell → ℕ → Cell
 cell_of cells word = slice_index_or cells word no_cell

@@ -3,7 +3,7 @@ ghost use Rattle.std.specs.Prelude.{◌≡◌, ◌<◌, ◌-◌, ◌^◌, if◌t
 ghost use Rattle.rv_execute.specs.Payloads.{changed};
 ghost use Rattle.std.specs.List.{range_with_len};
 ghost use Rattle.elf_image.specs.Layout.{words_of};
-ghost use Rattle.inline_tracker.specs.Cells.{first_cell, cell_found, cell_after};
+ghost use Rattle.inline_tracker.specs.Cells.{first_cell, untouched, cell_found, cell_after};
 
 use elf_image::Image;
 use order_core::NoMemory;
@@ -18,19 +18,16 @@ pub(crate) struct Cell {
     tag: u32,
 }
 
-/// The words that a run begins with.
-#[tactic(auto, using(crate::proofs::Lists::map_more))]
-pub(crate) fn first_cells(alloc: Global, image: &Image) -> Result<Vec<Cell>, NoMemory>
-    ensures { IfOk result (λ cells.
-        cells.items ≡ map (first_cell image.now) (range_with_len 0 (words_of image.now))) }
+/// Words with these payloads, before their first accesses.
+fn cells_of(alloc: Global, payloads: &[u32]) -> Result<Vec<Cell>, NoMemory>
+    ensures { IfOk result (λ cells. cells.items ≡ map untouched payloads.now) }
 {
-    let words = image.words();
-    let Ok(mut cells) = Vec::with_capacity(alloc, words as usize) else {
+    let Ok(mut cells) = Vec::with_capacity(alloc, payloads.len()) else {
         return Err(NoMemory);
     };
-    for word in 0..words {
+    for payload in payloads {
         let cell = Cell {
-            payload: image.first_word(word),
+            payload: *payload,
             count: 0,
             tag: 0,
         };
@@ -39,6 +36,17 @@ pub(crate) fn first_cells(alloc: Global, image: &Image) -> Result<Vec<Cell>, NoM
         };
     }
     Ok(cells)
+}
+
+/// The words that a run begins with.
+pub(crate) fn first_cells(alloc: Global, image: &Image) -> Result<Vec<Cell>, NoMemory>
+    ensures { IfOk result (λ cells.
+        cells.items ≡ map (first_cell image.now) (range_with_len 0 (words_of image.now))) }
+{
+    let Ok(payloads) = image.first_words(alloc) else {
+        return Err(NoMemory);
+    };
+    cells_of(alloc, payloads.as_slice())
 }
 
 /// The payload that an access leaves: a spent one changes nothing.
