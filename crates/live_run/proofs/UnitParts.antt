@@ -31,7 +31,7 @@ use Rattle.actor_lists.specs.Folded.{change_by, FoundNone}
 use Rattle.machine.specs.Setups.{Setup}
 use Rattle.machine.specs.States.{Core}
 use Rattle.machine.specs.Steps.{note_of}
-use Rattle.machine.proofs.Parts.{AgreesWith, StandsInBoth, StandsBy, IsPartedUnit, access_by as access_parted}
+use Rattle.machine.proofs.Parts.{AgreesWith, StandsInBoth, StandsBy, IsPartedUnit}
 use Rattle.machine.proofs.Joining.{IsPieceOf}
 use Rattle.live_run.proofs.WordHistories.{draw_terms, serve_terms, words_along, IsDrawn, IsServed}
 
@@ -79,14 +79,6 @@ same_note (MeetRecord step pc call kind) reply after e =
     ap (λ (r : Reply). record { step = step; pc = pc; call = call; kind = kind; tags = r.tags; buffer = r.buffer; stop = r.stop } ∷ []) e
 same_note (Back step pc) reply after e = refl
 same_note EndRecord reply after e = refl
-
-same_access : (ask : CoreAsk) (answer : Answer) → access_by ask answer ≡ access_parted ask answer
-same_access AsksNothing answer = refl
-same_access (Touches word op) Nothing = refl
-same_access (Touches word op) (Took t) = refl
-same_access (Touches word op) (Replied reply) = refl
-same_access (Meets item) answer = refl
-same_access Ended answer = refl
 
 -- a number drawn at or above the limit leaves the payload, as one that is told so
 left_as_told : (limit number payload old : ℕ) (spent : Bool) → spent ≡ nat_le limit number
@@ -195,7 +187,7 @@ module _ (s : Setup) (drawn served : List Change) (out : List ℕ) (c : ℕ) whe
       agrees = agrees_at core given (next_ask s.program core.local) answer refl unit.fits unit;
     };
     stands = stands_at core given (next_ask s.program core.local) answer refl unit;
-    touch = same_access (next_ask s.program core.local) answer;
+    touch = refl;
   }
 
   notes_at : (core : Core) (given : Given) (ask : CoreAsk) (answer : Answer) → next_ask s.program core.local ≡ ask → Fits ask answer → IsUnit core answer given

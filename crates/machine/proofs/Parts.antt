@@ -1,5 +1,5 @@
 -- A run in parts: each core as a local run and as a fold of its records, and each word as a history of payloads and one of tags.
-use Rattle.std.proofs.Common.{◌≡◌, ℕ, suc, List, [], ◌∷◌, ◌++◌, All, Option, Some, None, if◌then◌else◌, nat_le}
+use Rattle.std.proofs.Common.{◌≡◌, ℕ, suc, List, [], ◌∷◌, ◌++◌, All, if◌then◌else◌, nat_le}
 use Rattle.rv_execute.specs.declared.op.Op.{Op}
 use Rattle.rv_execute.specs.declared.op.Taken.{Taken}
 use Rattle.rv_execute.specs.Payloads.{changed}
@@ -15,8 +15,8 @@ use Rattle.syscall_drain.specs.Units.{Fits, next_ask, answered, placed}
 use Rattle.syscall_drain.specs.Records.{unit_record}
 use Rattle.syscall_drain.specs.Runs.{local_after}
 use Rattle.syscall_drain.specs.Pieces.{Piece, piece_at}
-use Rattle.order_core.specs.declared.entry.Access.{Access}
 use Rattle.order_core.specs.declared.entry.Entry.{Entry}
+use Rattle.actor_lists.specs.Walked.{access_by}
 use Rattle.machine.specs.Setups.{Setup}
 use Rattle.machine.specs.States.{Core, Word}
 use Rattle.machine.specs.Steps.{Finding, NoAccess, Accessed, note_of}
@@ -79,11 +79,6 @@ StandsBy s words InOutput core given (Touches word op) (Took t) = StandsInBoth s
 StandsBy s words InOutput core given _ _ = Unit {0}
 
 -- ---- all units of a core
-
--- the access of a unit that asked this and was answered so
-abbrev pub access_by : CoreAsk → Answer → Option Access
-access_by (Touches word op) (Took t) = Some (record { word = word; number = t.number; found = t.old })
-access_by _ _ = None
 
 pub record IsPartedUnit (s : Setup) (words : WordParts) (InOutput : Piece → Type 0) (core : Core) (answer : Answer) (given : Given) (entry : Entry) : Type 0 where
   pub parts : AreParts s core answer given

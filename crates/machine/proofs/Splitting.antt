@@ -28,12 +28,13 @@ use Rattle.syscall_drain.specs.Pieces.{Piece, piece_at}
 use Rattle.syscall_drain.proofs.Units.{fits_running}
 use Rattle.order_core.specs.declared.entry.Access.{Access}
 use Rattle.order_core.specs.declared.entry.Entry.{Entry}
+use Rattle.actor_lists.specs.Walked.{access_by}
 use Rattle.machine.specs.Setups.{Setup, core_count}
 use Rattle.machine.specs.States.{Core, Word, opening}
 use Rattle.machine.specs.Steps.{Finding, Accessed, core_given, record_given, tags_given, answer_to, note_of, notes_of, found_in, word_asked, touched, left}
 use Rattle.machine.proofs.ByAsk.{left_count, left_payload, left_tag, left_pieces}
 use Rattle.machine.proofs.Histories.{found_at, core_next, core_after, IsInHistory, word_in, MakesEntry, IsCoreRun, IsAlike, StandsIn}
-use Rattle.machine.proofs.Parts.{finding_of, AgreesWith, AreParts, core_of_parts, WordParts, words_of, IsNear, StandsInBoth, StandsBy, access_by, IsPartedUnit, IsPartedRun, notes_by, core_of_lists}
+use Rattle.machine.proofs.Parts.{finding_of, AgreesWith, AreParts, core_of_parts, WordParts, words_of, IsNear, StandsInBoth, StandsBy, IsPartedUnit, IsPartedRun, notes_by, core_of_lists}
 
 -- ---- one unit of a core
 
