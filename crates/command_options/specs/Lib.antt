@@ -1,4 +1,4 @@
-pub mod GivenOption
+pub mod Given
 pub mod Numbers
 pub mod Laws
 pub mod Words
