@@ -11,7 +11,7 @@ use Rattle.ticket_table.specs.declared.change.Change.{Change}
 use Rattle.syscall_drain.specs.Programs.{Program}
 use Rattle.syscall_drain.specs.Locals.{Local, opening_local}
 use Rattle.syscall_drain.specs.Tasks.{task_of}
-use Rattle.syscall_drain.specs.Units.{Fits, next_ask, task_ask, taken_of, answered, placed}
+use Rattle.syscall_drain.specs.Units.{FitsAsk, next_ask, task_ask, taken_of, answered, placed}
 use Rattle.syscall_drain.specs.Records.{task_record, unit_record}
 use Rattle.syscall_drain.specs.Runs.{local_after, IsLocalRun}
 use Rattle.syscall_drain.specs.Pieces.{Piece, piece_at}
@@ -22,7 +22,7 @@ use Rattle.syscall_drain.specs.declared.ask.Answer.{Answer}
 use Rattle.syscall_drain.specs.declared.ask.Answer.TheVariants.{Nothing, Taken as Took, Reply as Replied}
 use Rattle.syscall_drain.proofs.Standing.{local_after_more, local_run_more}
 use Rattle.order_core.specs.declared.entry.Entry.{Entry}
-use Rattle.actor_lists.specs.Walked.{records_by, access_by, draw_by, reply_in, note_by, IsTold, walked, HasRun}
+use Rattle.actor_lists.specs.Walked.{records_by, access_by, draw_by, reply_in, note_by, SaysSpent, walked, HasRun}
 
 pub walked_more : {A : Type 0} (each : Program → Local → Answer → List A) (program : Program) (budget : ℕ) (l : Local) (answers : List Answer) (last : Answer)
     → walked each program budget l (answers ++ last ∷ []) ≡ walked each program budget l answers ++ each program (local_after program budget l answers) last
@@ -44,7 +44,7 @@ pub run_begins : (program : Program) (budget core : ℕ) (terms : Terms) → Has
 unfolding IsLocalRun local_after walked
 run_begins program budget core terms = record {
   run = tt;
-  told = All-nil (IsTold terms.limit);
+  told = All-nil (SaysSpent terms.limit);
   local_is = refl;
   log_is = refl;
   drawn_is = refl;
@@ -56,13 +56,13 @@ run_begins program budget core terms = record {
 
 -- one unit more
 pub run_grows : (program : Program) (budget core : ℕ) (terms : Terms) (local : Local) (log : List Entry) (drawn : List Change) (records : List Record) (replies : List Reply) (notes : List CallNote) (claims : List Piece) (answers : List Answer) (last : Answer)
-    → HasRun program budget core terms local log drawn records replies notes claims answers → Fits (next_ask program local) last → IsTold terms.limit last
+    → HasRun program budget core terms local log drawn records replies notes claims answers → FitsAsk (next_ask program local) last → SaysSpent terms.limit last
     → HasRun program budget core terms (answered program budget local last) (log ++ record { touch = access_by (next_ask program local) last } ∷ []) (drawn ++ draw_by terms core (next_ask program local) last)
     (records ++ unit_record program local last ∷ []) (replies ++ reply_in last) (notes ++ note_by (next_ask program local) last) (claims ++ piece_at (placed program local last) local.gathered) (answers ++ last ∷ [])
 run_grows program budget core terms local log drawn records replies notes claims answers last has fits told =
     let l : Local = opening_local program core in record {
-      run = local_run_more program budget l answers last has.run (subst (λ (m : Local). Fits (next_ask program m) last) has.local_is fits);
-      told = All-push (IsTold terms.limit) answers last has.told told;
+      run = local_run_more program budget l answers last has.run (subst (λ (m : Local). FitsAsk (next_ask program m) last) has.local_is fits);
+      told = All-push (SaysSpent terms.limit) answers last has.told told;
       local_is = ap (λ (m : Local). answered program budget m last) has.local_is ∙ sym (local_after_more program budget l answers last);
       log_is = list_more _ program budget l local answers last log has.local_is has.log_is;
       drawn_is = list_more _ program budget l local answers last drawn has.local_is has.drawn_is;
@@ -73,7 +73,7 @@ run_grows program budget core terms local log drawn records replies notes claims
     }
 
 -- no record of a unit is the last record
-task_not_end : (l : Local) (task : Task) (t : Taken) (answer : Answer) → Fits (task_ask l task) answer → task_record l task t ≡ EndRecord → ⊥
+task_not_end : (l : Local) (task : Task) (t : Taken) (answer : Answer) → FitsAsk (task_ask l task) answer → task_record l task t ≡ EndRecord → ⊥
 task_not_end l Over t Nothing fits is = fits
 task_not_end l Over t (Took u) fits is = fits
 task_not_end l Over t (Replied reply) fits is = fits
@@ -84,7 +84,7 @@ task_not_end l (Quiet (Return result)) t answer fits is = cc
 task_not_end l (Access word op reason) t answer fits is = cc
 task_not_end l (Meeting kind) t answer fits is = cc
 
-unit_not_end : (program : Program) (l : Local) (answer : Answer) → Fits (next_ask program l) answer → unit_record program l answer ≡ EndRecord → ⊥
+unit_not_end : (program : Program) (l : Local) (answer : Answer) → FitsAsk (next_ask program l) answer → unit_record program l answer ≡ EndRecord → ⊥
 unfolding next_ask unit_record
 unit_not_end program l answer fits is = task_not_end l (task_of program l) (taken_of answer) answer fits is
 

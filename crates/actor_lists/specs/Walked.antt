@@ -47,10 +47,10 @@ note_by (Meets item) (Replied reply) = note_of item reply
 note_by _ _ = []
 
 -- an access was told that it is spent exactly where its number is at or above the limit
-abbrev pub IsTold : ℕ → Answer → Type 0
-IsTold limit Nothing = Unit {0}
-IsTold limit (Took t) = t.spent ≡ nat_le limit t.number
-IsTold limit (Replied reply) = Unit {0}
+abbrev pub SaysSpent : ℕ → Answer → Type 0
+SaysSpent limit Nothing = Unit {0}
+SaysSpent limit (Took t) = t.spent ≡ nat_le limit t.number
+SaysSpent limit (Replied reply) = Unit {0}
 
 -- ---- all units
 
@@ -85,7 +85,7 @@ claims_by = walked (λ program l answer. piece_at (placed program l answer) l.ga
 -- the lists of a core's local run along these answers: it draws as its own number under these terms, and stands at `local`
 pub record HasRun (program : Program) (budget core : ℕ) (terms : Terms) (local : Local) (log : List Entry) (drawn : List Change) (records : List Record) (replies : List Reply) (notes : List CallNote) (claims : List Piece) (answers : List Answer) : Type 0 where
   pub run : IsLocalRun program budget (opening_local program core) answers
-  pub told : All (IsTold terms.limit) answers
+  pub told : All (SaysSpent terms.limit) answers
   pub local_is : local ≡ local_after program budget (opening_local program core) answers
   pub log_is : log ≡ log_by program budget (opening_local program core) answers
   pub drawn_is : drawn ≡ draws_by terms core program budget (opening_local program core) answers

@@ -7,7 +7,7 @@ use Rattle.ticket_table.specs.Passes.{TableSeen, PassSeen, IsPassOf}
 use Rattle.ticket_table.specs.Calls.{MayDraw, HasChanged}
 use Rattle.ticket_table.specs.History.{made}
 use Rattle.syscall_drain.specs.Programs.{Program}
-use Rattle.syscall_drain.specs.Units.{Fits, next_ask}
+use Rattle.syscall_drain.specs.Units.{FitsAsk, next_ask}
 use Rattle.syscall_drain.specs.Seen.{next_unit, TouchesBelow}
 use Rattle.syscall_drain.specs.declared.ask.CoreAsk.{CoreAsk}
 use Rattle.syscall_drain.specs.declared.ask.CoreAsk.TheVariants.{Touch as Touches}
@@ -18,7 +18,7 @@ use Rattle.hart_actor.specs.Harts.{Hart}
 use Rattle.hart_actor.specs.Standing.{IsHart}
 use Rattle.hart_actor.proofs.UnitKinds.{asks_at}
 
-touch_fits : (ask : CoreAsk) (word : ℕ) (op : Op) (t : Taken) → ask ≡ Touches word op → Fits ask (Took t)
+touch_fits : (ask : CoreAsk) (word : ℕ) (op : Op) (t : Taken) → ask ≡ Touches word op → FitsAsk ask (Took t)
 touch_fits ask word op t is = rw is tt
 
 pub may_draw : (v now : Hart) (memory : TableSeen) (program : Program) (unit : NextUnit) (word : ℕ) (op : Op) → v ≡ now → IsHart v → program ≡ now.program → unit ≡ next_unit program now.local → unit.ask ≡ Touches word op

@@ -16,7 +16,7 @@ use Rattle.ticket_table.specs.History.{made}
 use Rattle.ticket_table.specs.Passes.{is_spent}
 use Rattle.syscall_drain.specs.Programs.{Program}
 use Rattle.syscall_drain.specs.Locals.{Local}
-use Rattle.syscall_drain.specs.Units.{Fits, next_ask, answered, placed}
+use Rattle.syscall_drain.specs.Units.{FitsAsk, next_ask, answered, placed}
 use Rattle.syscall_drain.specs.Records.{unit_record, IsStill}
 use Rattle.syscall_drain.specs.Sound.{IsSound}
 use Rattle.syscall_drain.specs.Pieces.{bytes_placed}
@@ -91,7 +91,7 @@ pub record QuietDone (v g : Hart) : Type 0 where
 pub quiet_done : (v g : Hart) → QuietDone v g → UnitDone v g Nothing
 unfolding placed
 quiet_done v g q =
-    let fits : Fits (next_ask v.program v.local) Nothing = rw q.asks tt in
+    let fits : FitsAsk (next_ask v.program v.local) Nothing = rw q.asks tt in
     let spent : is_spent v.pass ≡ false = q.unspent (fits_running v.program v.local Nothing fits) in record {
       program = q.program;
       budget = q.budget;
@@ -142,7 +142,7 @@ pub record TouchDone (v g : Hart) (word : ℕ) (op : Op) (t : Taken) : Type 0 wh
 
 pub touch_done : (v g : Hart) (word : ℕ) (op : Op) (t : Taken) → TouchDone v g word op t → UnitDone v g (Took t)
 touch_done v g word op t q =
-    let fits : Fits (next_ask v.program v.local) (Took t) = rw q.asks tt in record {
+    let fits : FitsAsk (next_ask v.program v.local) (Took t) = rw q.asks tt in record {
       program = q.program;
       budget = q.budget;
       core = q.core;
@@ -188,7 +188,7 @@ pub record MeetDone (v g : Hart) (item : Record) (reply : Reply) : Type 0 where
 pub meet_done : (v g : Hart) (item : Record) (reply : Reply) → MeetDone v g item reply → UnitDone v g (Replied reply)
 unfolding placed
 meet_done v g item reply q =
-    let fits : Fits (next_ask v.program v.local) (Replied reply) = rw q.asks tt in
+    let fits : FitsAsk (next_ask v.program v.local) (Replied reply) = rw q.asks tt in
     let spent : is_spent v.pass ≡ false = q.unspent (fits_running v.program v.local (Replied reply) fits) in record {
       program = q.program;
       budget = q.budget;

@@ -13,7 +13,7 @@ use Rattle.ticket_table.specs.Passes.{is_spent}
 use Rattle.syscall_drain.specs.Programs.{Program}
 use Rattle.syscall_drain.specs.Locals.{Local}
 use Rattle.syscall_drain.specs.Tasks.{task_of}
-use Rattle.syscall_drain.specs.Units.{Fits, next_ask, task_ask, after_task, spent_unit, answered, placed}
+use Rattle.syscall_drain.specs.Units.{FitsAsk, next_ask, task_ask, after_task, spent_unit, answered, placed}
 use Rattle.syscall_drain.specs.Records.{unit_record}
 use Rattle.syscall_drain.specs.Sound.{IsSound, due}
 use Rattle.syscall_drain.specs.Pieces.{bytes_placed}
@@ -24,7 +24,7 @@ use Rattle.syscall_drain.specs.declared.ask.CoreAsk.TheVariants.{Quiet as AsksNo
 use Rattle.syscall_drain.specs.declared.ask.Answer.{Answer}
 use Rattle.syscall_drain.specs.declared.ask.Answer.TheVariants.{Nothing, Taken as Took, Reply as Replied}
 use Rattle.syscall_drain.proofs.Units.{answered_units, fits_running, places_bytes}
-use Rattle.actor_lists.specs.Walked.{access_by, draw_by, reply_in, note_of, note_by, IsTold}
+use Rattle.actor_lists.specs.Walked.{access_by, draw_by, reply_in, note_of, note_by, SaysSpent}
 use Rattle.actor_lists.proofs.WalkedLists.{run_grows}
 use Rattle.hart_actor.specs.declared.stage.Stage.TheVariants.{Going}
 use Rattle.hart_actor.specs.Harts.{Hart, ahead, cut, cut_length, size_placed}
@@ -39,8 +39,8 @@ pub record UnitDone (h g : Hart) (a : Answer) : Type 0 where
   pub terms : g.pass.terms ≡ h.pass.terms
   pub caller : g.pass.caller ≡ h.pass.caller
   pub sound : IsSound h.local
-  pub fits : Fits (next_ask h.program h.local) a
-  pub told : IsTold h.pass.terms.limit a
+  pub fits : FitsAsk (next_ask h.program h.local) a
+  pub told : SaysSpent h.pass.terms.limit a
   pub local : g.local ≡ answered h.program h.budget h.local a
   pub within : g.local.units ≤ h.budget
   pub log : g.log ≡ record h.log { items = h.log.items ++ record { touch = access_by (next_ask h.program h.local) a } ∷ [] }

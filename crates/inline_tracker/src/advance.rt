@@ -76,7 +76,7 @@ fn access_unit(run: &mut Run, setup: &Setup, core: u8, unit: NextUnit, word: u32
 }
 
 /// Spends this unit of a core.
-pub(crate) fn spend(run: &mut Run, setup: &Setup, core: u8, unit: NextUnit)
+pub(crate) fn run_unit(run: &mut Run, setup: &Setup, core: u8, unit: NextUnit)
     requires stands { Stands setup.now run.old }
     requires turn { IsTurnOf setup.now run.old core unit }
     ensures stands { Stands setup.now run.new }

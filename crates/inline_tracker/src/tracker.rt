@@ -8,7 +8,7 @@ ghost use Rattle.inline_tracker.specs.Seen.{step_answer, order_after, has_ended,
 ghost use Rattle.inline_tracker.specs.Seats.{HaveEnded, SomeGoesOn};
 ghost use Rattle.inline_tracker.specs.Outcomes.{outcome_summary};
 
-use crate::advance::spend;
+use crate::advance::run_unit;
 use crate::ending::finished_run;
 use crate::finished::{CoreOutcome, Finished};
 use crate::opening::first_run;
@@ -96,7 +96,7 @@ impl<'a> Tracker<'a> {
         match turn_of(&self.run, self.setup, core) {
             Err(fault) => Stepped::Refused(fault),
             Ok(unit) => {
-                spend(&mut self.run, self.setup, core, unit);
+                run_unit(&mut self.run, self.setup, core, unit);
                 Stepped::Went
             }
         }

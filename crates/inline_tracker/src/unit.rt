@@ -8,7 +8,7 @@ ghost use Rattle.tag_registers.specs.Tags.{tags_after, word_tag};
 ghost use Rattle.tag_registers.specs.Files.{tags_in, is_touch};
 ghost use Rattle.syscall_drain.specs.declared.ask.CoreAsk.TheVariants.{Quiet as AsksNothing, Touch as Touches, Meet as Meets};
 ghost use Rattle.syscall_drain.specs.declared.ask.Answer.TheVariants.{Taken as Took};
-ghost use Rattle.syscall_drain.specs.Units.{Fits, placed, taken_of};
+ghost use Rattle.syscall_drain.specs.Units.{FitsAsk, placed, taken_of};
 ghost use Rattle.syscall_drain.specs.Records.{unit_record, IsStill};
 ghost use Rattle.syscall_drain.specs.Sound.{IsSound};
 ghost use Rattle.syscall_drain.specs.Pieces.{PlacesBytes};
@@ -35,9 +35,9 @@ use tag_registers::{TagAsk, TagFile};
 const NO_ACCESS: Entry = Entry { touch: None };
 
 /// Spends a unit that was given this answer.
-fn spend(seat: &mut Seat, guest: &Guest, unit: NextUnit, given: Answer, entry: Entry) -> Made
+fn take_answer(seat: &mut Seat, guest: &Guest, unit: NextUnit, given: Answer, entry: Entry) -> Made
     requires unit { IsNextUnit guest.now (local_in seat.old) unit }
-    requires asked { Fits unit.ask given }
+    requires asked { FitsAsk unit.ask given }
     requires numbered { (taken_of given).number < MOST_NUMBERS }
     requires room { length seat.old.log.items < seat.old.log.room }
     ensures spent { HasSpent guest.now seat.old.state seat.new.state given }
@@ -92,7 +92,7 @@ pub(crate) fn quiet(seat: &mut Seat, setup: &Setup, unit: NextUnit)
     ensures log { seat.new.log.items ≡ seat.old.log.items ++ record { touch = None } ∷ [] }
     ensures seated { IsSeated setup.now.budget seat.new }
 {
-    let made = spend(seat, setup.guest(), unit, Answer::Nothing, NO_ACCESS);
+    let made = take_answer(seat, setup.guest(), unit, Answer::Nothing, NO_ACCESS);
     keep_tags(&mut seat.tags, setup.policy(), made.item);
     close(seat);
 }
@@ -149,7 +149,7 @@ pub(crate) fn meet(seat: &mut Seat, setup: &Setup, unit: NextUnit, item: Record)
     };
     let note = note_of(item, reply);
     keep_note(&mut seat.notes, note);
-    spend(seat, setup.guest(), unit, Answer::Reply(reply), NO_ACCESS);
+    take_answer(seat, setup.guest(), unit, Answer::Reply(reply), NO_ACCESS);
     close(seat);
 }
 
@@ -212,7 +212,7 @@ pub(crate) fn take(
             found: taken.old,
         }),
     };
-    let made = spend(seat, setup.guest(), unit, Answer::Taken(taken), entry);
+    let made = take_answer(seat, setup.guest(), unit, Answer::Taken(taken), entry);
     follow(&mut seat.tags, cell, setup.policy(), made.item);
     close(seat);
     made.placed

@@ -26,7 +26,7 @@ use Rattle.order_core.specs.Logs.{log_of, TouchesBelow}
 use Rattle.order_core.specs.Marked.{numbers_of}
 use Rattle.order_core.specs.History.{touches_of, ExtendsToMerge}
 use Rattle.order_core.specs.CanonicalMerge.{canonical}
-use Rattle.actor_lists.specs.Walked.{IsTold, draws_by, log_by}
+use Rattle.actor_lists.specs.Walked.{SaysSpent, draws_by, log_by}
 use Rattle.actor_lists.specs.Folded.{change_by}
 use Rattle.machine.specs.Setups.{Setup, core_count}
 use Rattle.machine.specs.States.{Core, opening_core}
@@ -121,7 +121,7 @@ module _ (s : Setup) (memory tags : TableSeen) (drawn served : List Change) (cor
   units_of : (c : ℕ) (by : LeftBy c) → AreUnits s drawn served out c (opening_core s c) (by.is).answers (by.is).givens
   units_of c by = record {
     run = ((by.is).run).run;
-    told = subst (λ (terms : Terms). All (IsTold terms.limit) (by.is).answers) memory_terms ((by.is).run).told;
+    told = subst (λ (terms : Terms). All (SaysSpent terms.limit) (by.is).answers) memory_terms ((by.is).run).told;
     items = sym ((by.is).fold).items_are ∙ ((by.is).run).records_are;
     found = ((by.is).fold).found;
     draws = subst (All (IsDrawn s drawn)) (drawn_by c by) (All-filter (λ (e : Change). eqb e.caller c) (IsDrawn s drawn) drawn drawn_all);

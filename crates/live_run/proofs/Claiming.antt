@@ -11,7 +11,7 @@ use Rattle.ticket_table.specs.declared.change.Change.{Change}
 use Rattle.elf_image.specs.declared.device.TheConstants.{OUTPUT_WORD}
 use Rattle.syscall_drain.specs.Programs.{Program}
 use Rattle.syscall_drain.specs.Locals.{Local, opening_local}
-use Rattle.syscall_drain.specs.Units.{Fits, next_ask, answered, taken_of, place_asked, placed}
+use Rattle.syscall_drain.specs.Units.{FitsAsk, next_ask, answered, taken_of, place_asked, placed}
 use Rattle.syscall_drain.specs.Runs.{IsLocalRun}
 use Rattle.syscall_drain.specs.Sound.{IsSound, due}
 use Rattle.syscall_drain.specs.Pieces.{Piece, piece_at, bytes_placed}
@@ -21,7 +21,7 @@ use Rattle.syscall_drain.specs.declared.ask.Answer.{Answer}
 use Rattle.syscall_drain.specs.declared.ask.Answer.TheVariants.{Nothing, Taken as Took, Reply as Replied}
 use Rattle.syscall_drain.proofs.Units.{fits_running, answered_units, answered_sound, answered_below, output_asked, places_bytes}
 use Rattle.live_run.proofs.Spans.{total, total_append, all_append}
-use Rattle.actor_lists.specs.Walked.{draw_by, IsTold, walked, draws_by, claims_by}
+use Rattle.actor_lists.specs.Walked.{draw_by, SaysSpent, walked, draws_by, claims_by}
 
 -- ---- a change of the output's word
 
@@ -65,12 +65,12 @@ touch_claims terms caller word op t gathered false e told asked = rw e refl
 is_claim : (op : Op) (size : ℕ) → op ≡ Place size → op ≡ Place (placed_length op)
 is_claim op size e = e ∙ ap (λ (o : Op). Place (placed_length o)) (sym e)
 
-unit_claims : (terms : Terms) (caller : ℕ) (program : Program) (l : Local) (answer : Answer) → IsSound l → Fits (next_ask program l) answer → IsTold terms.limit answer
+unit_claims : (terms : Terms) (caller : ℕ) (program : Program) (l : Local) (answer : Answer) → IsSound l → FitsAsk (next_ask program l) answer → SaysSpent terms.limit answer
     → ClaimsSpans terms.limit (piece_at (placed program l answer) l.gathered) (draw_by terms caller (next_ask program l) answer)
 unfolding placed
 unit_claims terms caller program l answer sound fits told = by_ask (next_ask program l) answer refl fits told
   where
-    by_ask : (ask : CoreAsk) (a : Answer) → next_ask program l ≡ ask → Fits ask a → IsTold terms.limit a
+    by_ask : (ask : CoreAsk) (a : Answer) → next_ask program l ≡ ask → FitsAsk ask a → SaysSpent terms.limit a
         → ClaimsSpans terms.limit (piece_at (place_asked ask (taken_of a)) l.gathered) (draw_by terms caller ask a)
     by_ask AsksNothing Nothing asks f t = record { spans_are = refl; claims = tt }
     by_ask AsksNothing (Took taken) asks f t = absurd f
@@ -97,7 +97,7 @@ pub spans_append : (limit : ℕ) (changes more : List Change) → spans limit (c
 spans_append limit [] more = refl
 spans_append limit (e ∷ changes) more = rw (spans_append limit changes more) (sym (append_assoc (span_of limit e) (spans limit changes) (spans limit more)))
 
-pub run_claims : (terms : Terms) (caller : ℕ) (program : Program) (budget : ℕ) (l : Local) (answers : List Answer) → IsSound l → IsLocalRun program budget l answers → AllByRecursion (IsTold terms.limit) answers
+pub run_claims : (terms : Terms) (caller : ℕ) (program : Program) (budget : ℕ) (l : Local) (answers : List Answer) → IsSound l → IsLocalRun program budget l answers → AllByRecursion (SaysSpent terms.limit) answers
     → ClaimsSpans terms.limit (claims_by program budget l answers) (draws_by terms caller program budget l answers)
 unfolding walked IsLocalRun
 run_claims terms caller program budget l [] sound run told = record { spans_are = refl; claims = tt }

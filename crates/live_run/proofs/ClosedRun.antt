@@ -19,16 +19,16 @@ use Rattle.live_run.specs.declared.closing.Closed.{Closed}
 use Rattle.live_run.specs.Assembled.{CoreLeft, IsCoreLeft, StandsIn, AreAssembled}
 use Rattle.live_run.specs.Pairs.{left_in_pair}
 use Rattle.live_run.specs.Ends.{outcome_in, claims_in}
-use Rattle.live_run.specs.Laying.{laid, IsWithin, pieces_in, pieces_of, AreLayable}
+use Rattle.live_run.specs.Laying.{laid, LiesWithin, pieces_in, pieces_of, AreLayable}
 use Rattle.live_run.specs.Closing.{AreReady, IsClosedRun}
 use Rattle.live_run.proofs.Spans.{all_append}
 use Rattle.live_run.proofs.Laying.{laid_length, laid_stands}
 use Rattle.live_run.proofs.PiecesApart.{of_core}
 use Rattle.live_run.proofs.RunClaims.{found_map, here_map, changes_at, of_pair, size_is, are_layable, are_apart}
 
-all_within : (size : ℕ) (all : List Claims) → AllByRecursion (AreLayable size) all → AllByRecursion (IsWithin size) (pieces_of all)
+all_within : (size : ℕ) (all : List Claims) → AllByRecursion (AreLayable size) all → AllByRecursion (LiesWithin size) (pieces_of all)
 all_within size [] layable = tt
-all_within size (claims ∷ all) layable = all_append (IsWithin size) (pieces_in claims) (pieces_of all) (layable.0).within (all_within size all layable.1)
+all_within size (claims ∷ all) layable = all_append (LiesWithin size) (pieces_in claims) (pieces_of all) (layable.0).within (all_within size all layable.1)
 
 module _ (s : Setup) (pairs : List Pair) (memory tags : TableSeen) (ends : Ends) (output : Bounded ℕ) (ready : AreReady s pairs memory tags ends output)
     (words : List ℕ) (history : List Change) (closes : Closes memory.basis (map (λ pair. pair.drawn) pairs) words history)
@@ -36,7 +36,7 @@ module _ (s : Setup) (pairs : List Pair) (memory tags : TableSeen) (ends : Ends)
   abbrev pub bytes : List ℕ
   bytes = laid (replicate (payload_of (slice_index words OUTPUT_WORD)) 0) (pieces_of (map claims_in pairs))
 
-  within : AllByRecursion (IsWithin (length (replicate {A = ℕ} (payload_of (slice_index words OUTPUT_WORD)) 0))) (pieces_of (map claims_in pairs))
+  within : AllByRecursion (LiesWithin (length (replicate {A = ℕ} (payload_of (slice_index words OUTPUT_WORD)) 0))) (pieces_of (map claims_in pairs))
   within =
       rw (length-replicate {A = ℕ} (payload_of (slice_index words OUTPUT_WORD)) 0)
       (all_within (payload_of (slice_index words OUTPUT_WORD)) (map claims_in pairs) (are_layable s pairs memory tags ends output ready words history closes))

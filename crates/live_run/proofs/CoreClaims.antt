@@ -14,7 +14,7 @@ use Rattle.ticket_table.proofs.Histories.{by_steps, of_caller_same, of_caller_ot
 use Rattle.syscall_drain.specs.Locals.{opening_local}
 use Rattle.syscall_drain.specs.Pieces.{Piece}
 use Rattle.machine.specs.Setups.{Setup}
-use Rattle.actor_lists.specs.Walked.{IsTold}
+use Rattle.actor_lists.specs.Walked.{SaysSpent}
 use Rattle.live_run.specs.Assembled.{CoreLeft, IsCoreLeft}
 use Rattle.live_run.proofs.Spans.{total, all_append, all_split}
 use Rattle.live_run.proofs.Claiming.{spans, IsClaim, piece_span, run_claims, opening_sound, claims_short}
@@ -30,7 +30,7 @@ pub core_claims : (s : Setup) (memory tags : TableSeen) (core : ℕ) (drawn serv
     → AreClaimsOf s memory.basis.terms.limit drawn left.claims
 core_claims s memory tags core drawn served left some is =
     let run = is.run in
-    let made = run_claims memory.basis.terms core s.program s.budget (opening_local s.program core) is.answers (opening_sound s.program core) run.run (recursion_from_All (IsTold memory.basis.terms.limit) is.answers run.told) in
+    let made = run_claims memory.basis.terms core s.program s.budget (opening_local s.program core) is.answers (opening_sound s.program core) run.run (recursion_from_All (SaysSpent memory.basis.terms.limit) is.answers run.told) in
     let same : map piece_span left.claims ≡ spans memory.basis.terms.limit drawn = ap (map piece_span) run.claims_are ∙ made.spans_are ∙ sym (ap (spans memory.basis.terms.limit) run.drawn_is) in
     let short = claims_short s.program s.budget core is.answers some run.run in
     record {

@@ -13,7 +13,7 @@ use Rattle.syscall_drain.specs.Records.{unit_record}
 use Rattle.syscall_drain.specs.Runs.{IsLocalRun}
 use Rattle.syscall_drain.specs.Pieces.{piece_at}
 use Rattle.syscall_drain.specs.declared.ask.Answer.{Answer}
-use Rattle.actor_lists.specs.Walked.{walked, draw_by, draws_by, log_by, records_by, replies_by, claims_by, IsTold, notes_by}
+use Rattle.actor_lists.specs.Walked.{walked, draw_by, draws_by, log_by, records_by, replies_by, claims_by, SaysSpent, notes_by}
 use Rattle.actor_lists.specs.Folded.{change_by, FoundNone}
 use Rattle.machine.specs.Setups.{Setup}
 use Rattle.machine.specs.States.{Core}
@@ -27,7 +27,7 @@ module _ (s : Setup) (drawn served : List Change) (out : List ℕ) (c : ℕ) whe
   -- the answers and the records of core c, from where it stands
   pub record AreUnits (core : Core) (answers : List Answer) (givens : List Given) : Type 0 where
     pub run : IsLocalRun s.program s.budget core.local answers
-    pub told : All (IsTold s.limit) answers
+    pub told : All (SaysSpent s.limit) answers
     pub items : map (λ given. given.item) givens ≡ records_by s.program s.budget core.local answers
     pub found : All FoundNone givens
     pub draws : All (IsDrawn s drawn) (draws_by (draw_terms s) c s.program s.budget core.local answers)
@@ -56,7 +56,7 @@ module _ (s : Setup) (drawn served : List Change) (out : List ℕ) (c : ℕ) whe
       record {
         unit = record {
           fits = (units.run).0;
-          told = All-head (IsTold s.limit) answer answers units.told;
+          told = All-head (SaysSpent s.limit) answer answers units.told;
           item = item;
           none = All-head FoundNone given givens units.found;
           draws = front_all (IsDrawn s drawn) draws (draws_by (draw_terms s) c s.program s.budget next answers) units.draws;
@@ -66,7 +66,7 @@ module _ (s : Setup) (drawn served : List Change) (out : List ℕ) (c : ℕ) whe
         };
         rest = record {
           run = (units.run).1;
-          told = All-tail (IsTold s.limit) answer answers units.told;
+          told = All-tail (SaysSpent s.limit) answer answers units.told;
           items = cc;
           found = All-tail FoundNone given givens units.found;
           draws = back_all (IsDrawn s drawn) draws (draws_by (draw_terms s) c s.program s.budget next answers) units.draws;

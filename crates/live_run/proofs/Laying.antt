@@ -8,7 +8,7 @@ use Rattle.bounded_list.specs.Bounded.{Bounded, overwritten}
 use Rattle.syscall_drain.specs.Pieces.{Piece}
 use Rattle.hart_actor.specs.Harts.{cut, cut_length}
 use Rattle.live_run.specs.Assembled.{StandsIn}
-use Rattle.live_run.specs.Laying.{laid, IsWithin, LieApart, AreApart}
+use Rattle.live_run.specs.Laying.{laid, LiesWithin, LieApart, AreApart}
 
 -- ---- one piece
 
@@ -42,10 +42,10 @@ module _ (old : List ℕ) (place : ℕ) (bytes : List ℕ) (within : place + len
       ∙ ap (slice_index old) there
 
 -- it stands where it is put, and so do those from which it lies apart
-piece_stands : (old : List ℕ) (piece : Piece) → IsWithin (length old) piece → StandsIn (overwritten old piece.place piece.bytes) piece
+piece_stands : (old : List ℕ) (piece : Piece) → LiesWithin (length old) piece → StandsIn (overwritten old piece.place piece.bytes) piece
 piece_stands old piece within k below = read_inside old piece.place piece.bytes within k below
 
-other_stands : (old : List ℕ) (piece other : Piece) → IsWithin (length old) piece → LieApart other piece → StandsIn old other → StandsIn (overwritten old piece.place piece.bytes) other
+other_stands : (old : List ℕ) (piece other : Piece) → LiesWithin (length old) piece → LieApart other piece → StandsIn old other → StandsIn (overwritten old piece.place piece.bytes) other
 other_stands old piece other within apart stands k below = by_side apart ∙ stands k below
   where
     by_side : LieApart other piece → slice_index (overwritten old piece.place piece.bytes) (other.place + k) ≡ slice_index old (other.place + k)
@@ -54,17 +54,17 @@ other_stands old piece other within apart stands k below = by_side apart ∙ sta
 
 -- ---- all pieces
 
-same_bound : (size other : ℕ) (pieces : List Piece) → other ≡ size → AllByRecursion (IsWithin size) pieces → AllByRecursion (IsWithin other) pieces
-same_bound size other pieces same within = subst (λ (n : ℕ). AllByRecursion (IsWithin n) pieces) (sym same) within
+same_bound : (size other : ℕ) (pieces : List Piece) → other ≡ size → AllByRecursion (LiesWithin size) pieces → AllByRecursion (LiesWithin other) pieces
+same_bound size other pieces same within = subst (λ (n : ℕ). AllByRecursion (LiesWithin n) pieces) (sym same) within
 
-pub laid_length : (bytes : List ℕ) (pieces : List Piece) → AllByRecursion (IsWithin (length bytes)) pieces → length (laid bytes pieces) ≡ length bytes
+pub laid_length : (bytes : List ℕ) (pieces : List Piece) → AllByRecursion (LiesWithin (length bytes)) pieces → length (laid bytes pieces) ≡ length bytes
 unfolding laid
 laid_length bytes [] within = refl
 laid_length bytes (piece ∷ pieces) within =
     let same : length (overwritten bytes piece.place piece.bytes) ≡ length bytes = overwritten_length bytes piece.place piece.bytes within.0 in
     laid_length (overwritten bytes piece.place piece.bytes) pieces (same_bound (length bytes) _ pieces same within.1) ∙ same
 
-laid_keeps : (bytes : List ℕ) (pieces : List Piece) (other : Piece) → AllByRecursion (IsWithin (length bytes)) pieces → AllByRecursion (LieApart other) pieces → StandsIn bytes other → StandsIn (laid bytes pieces) other
+laid_keeps : (bytes : List ℕ) (pieces : List Piece) (other : Piece) → AllByRecursion (LiesWithin (length bytes)) pieces → AllByRecursion (LieApart other) pieces → StandsIn bytes other → StandsIn (laid bytes pieces) other
 unfolding laid
 laid_keeps bytes [] other within apart stands = stands
 laid_keeps bytes (piece ∷ pieces) other within apart stands =
@@ -72,13 +72,13 @@ laid_keeps bytes (piece ∷ pieces) other within apart stands =
     laid_keeps (overwritten bytes piece.place piece.bytes) pieces other (same_bound (length bytes) _ pieces same within.1) apart.1
     (other_stands bytes piece other within.0 apart.0 stands)
 
-pub laid_stands : (bytes : List ℕ) (pieces : List Piece) → AllByRecursion (IsWithin (length bytes)) pieces → AreApart pieces → AllByRecursion (StandsIn (laid bytes pieces)) pieces
+pub laid_stands : (bytes : List ℕ) (pieces : List Piece) → AllByRecursion (LiesWithin (length bytes)) pieces → AreApart pieces → AllByRecursion (StandsIn (laid bytes pieces)) pieces
 unfolding laid
 laid_stands bytes [] within apart = tt
 laid_stands bytes (piece ∷ pieces) within apart =
     let next : List ℕ = overwritten bytes piece.place piece.bytes in
     let same : length next ≡ length bytes = overwritten_length bytes piece.place piece.bytes within.0 in
-    let bound : AllByRecursion (IsWithin (length next)) pieces = same_bound (length bytes) (length next) pieces same within.1 in (
+    let bound : AllByRecursion (LiesWithin (length next)) pieces = same_bound (length bytes) (length next) pieces same within.1 in (
       laid_keeps next pieces piece bound apart.0 (piece_stands bytes piece within.0),
       laid_stands next pieces bound apart.1,
     )
@@ -95,7 +95,7 @@ pub record IsLaying (old : Bounded ℕ) (all : List Piece) (now : Bounded ℕ) (
   pub room : now.room ≡ old.room
   pub size : length now.items ≡ length old.items
   pub whole : cut_length rest ≡ length bytes
-  pub within : AllByRecursion (IsWithin (length old.items)) (cut rest bytes)
+  pub within : AllByRecursion (LiesWithin (length old.items)) (cut rest bytes)
   pub laid_is : laid now.items (cut rest bytes) ≡ laid old.items all
 
 -- the next piece has its bytes, and there is room for it at its place

@@ -9,7 +9,7 @@ use Rattle.tag_registers.specs.Folds.{Given, folded, reply_to, replies}
 use Rattle.syscall_drain.specs.Programs.{Program}
 use Rattle.syscall_drain.specs.Locals.{Local}
 use Rattle.syscall_drain.specs.Tasks.{task_of}
-use Rattle.syscall_drain.specs.Units.{Fits, task_ask, next_ask, answered, taken_of}
+use Rattle.syscall_drain.specs.Units.{FitsAsk, task_ask, next_ask, answered, taken_of}
 use Rattle.syscall_drain.specs.Records.{task_record, unit_record}
 use Rattle.syscall_drain.specs.Runs.{IsLocalRun}
 use Rattle.syscall_drain.specs.declared.task.Task.{Task}
@@ -39,7 +39,7 @@ record IsUnitRecord (item : Record) (answer : Answer) : Type 0 where
   going : item ≡ End → ⊥
   heard : length (reply_in answer) ≡ meets item
 
-task_made : (l : Local) (task : Task) (answer : Answer) → Fits (task_ask l task) answer → IsUnitRecord (task_record l task (taken_of answer)) answer
+task_made : (l : Local) (task : Task) (answer : Answer) → FitsAsk (task_ask l task) answer → IsUnitRecord (task_record l task (taken_of answer)) answer
 task_made l Over answer fits = absurd fits
 task_made l (QuietTask (BlankReason fault)) Nothing fits = record { going = λ e. cc; heard = refl }
 task_made l (QuietTask (Faulted fault insn)) Nothing fits = record { going = λ e. cc; heard = refl }
@@ -54,7 +54,7 @@ task_made l (Meeting kind) Nothing fits = absurd fits
 task_made l (Meeting kind) (Took t) fits = absurd fits
 task_made l (Meeting kind) (Replied reply) fits = record { going = λ e. cc; heard = refl }
 
-unit_made : (program : Program) (l : Local) (answer : Answer) → Fits (next_ask program l) answer → IsUnitRecord (unit_record program l answer) answer
+unit_made : (program : Program) (l : Local) (answer : Answer) → FitsAsk (next_ask program l) answer → IsUnitRecord (unit_record program l answer) answer
 unfolding next_ask unit_record
 unit_made program l answer fits = task_made l (task_of program l) answer fits
 

@@ -4,13 +4,13 @@ use Rattle.std.specs.List.{AllByRecursion}
 use Rattle.std.proofs.lemmas.List.{map-append}
 use Rattle.syscall_drain.specs.Pieces.{Piece}
 use Rattle.live_run.specs.declared.ends.Claims.{Claims}
-use Rattle.live_run.specs.Laying.{IsWithin, LieApart, AreApart, pieces_in, pieces_of}
+use Rattle.live_run.specs.Laying.{LiesWithin, LieApart, AreApart, pieces_in, pieces_of}
 use Rattle.live_run.proofs.Claiming.{piece_span}
 use Rattle.live_run.proofs.Spans.{EndsBy, SpansApart, AllApart, EachApart, all_split, apart_none, apart_right, each_append}
 
 -- ---- pieces and their spans
 
-pub within_by : (size : ℕ) (pieces : List Piece) → AllByRecursion (EndsBy size) (map piece_span pieces) → AllByRecursion (IsWithin size) pieces
+pub within_by : (size : ℕ) (pieces : List Piece) → AllByRecursion (EndsBy size) (map piece_span pieces) → AllByRecursion (LiesWithin size) pieces
 within_by size [] ends = tt
 within_by size (piece ∷ pieces) ends = (ends.0, within_by size pieces ends.1)
 

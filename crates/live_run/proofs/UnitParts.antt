@@ -18,7 +18,7 @@ use Rattle.tag_registers.proofs.WordOperation.{operation_leaves}
 use Rattle.ticket_table.specs.declared.change.Change.{Change}
 use Rattle.ticket_table.specs.History.{made}
 use Rattle.syscall_drain.specs.Arguments.{call_number}
-use Rattle.syscall_drain.specs.Units.{Fits, next_ask, placed}
+use Rattle.syscall_drain.specs.Units.{FitsAsk, next_ask, placed}
 use Rattle.syscall_drain.specs.Records.{unit_record, IsStill}
 use Rattle.syscall_drain.specs.Pieces.{piece_at}
 use Rattle.syscall_drain.specs.declared.ask.CoreAsk.{CoreAsk}
@@ -26,7 +26,7 @@ use Rattle.syscall_drain.specs.declared.ask.CoreAsk.TheVariants.{Quiet as AsksNo
 use Rattle.syscall_drain.specs.declared.ask.Answer.{Answer}
 use Rattle.syscall_drain.specs.declared.ask.Answer.TheVariants.{Nothing, Taken as Took, Reply as Replied}
 use Rattle.syscall_drain.proofs.RecordKinds.{still_record, meeting_record, meeting_is, touch_record, IsTouchOf}
-use Rattle.actor_lists.specs.Walked.{access_by, draw_by, reply_in, note_by, IsTold}
+use Rattle.actor_lists.specs.Walked.{access_by, draw_by, reply_in, note_by, SaysSpent}
 use Rattle.actor_lists.specs.Folded.{change_by, FoundNone}
 use Rattle.machine.specs.Setups.{Setup}
 use Rattle.machine.specs.States.{Core}
@@ -90,8 +90,8 @@ left_as_told limit number payload old spent told = rw told (grind (arith, nat_te
 module _ (s : Setup) (drawn served : List Change) (out : List ℕ) (c : ℕ) where
   -- the answer to a unit of core c, with its record, and what both did
   pub record IsUnit (core : Core) (answer : Answer) (given : Given) : Type 0 where
-    pub fits : Fits (next_ask s.program core.local) answer
-    pub told : IsTold s.limit answer
+    pub fits : FitsAsk (next_ask s.program core.local) answer
+    pub told : SaysSpent s.limit answer
     pub item : given.item ≡ unit_record s.program core.local answer
     pub none : FoundNone given
     pub draws : All (IsDrawn s drawn) (draw_by (draw_terms s) c (next_ask s.program core.local) answer)
@@ -100,7 +100,7 @@ module _ (s : Setup) (drawn served : List Change) (out : List ℕ) (c : ℕ) whe
     pub claims : All (IsPieceOf out) (piece_at (placed s.program core.local answer) core.local.gathered)
 
   -- the replies of a unit and of those after it are told apart
-  pub replies_apart : (core : Core) (given : Given) (ask : CoreAsk) (answer : Answer) → next_ask s.program core.local ≡ ask → Fits ask answer
+  pub replies_apart : (core : Core) (given : Given) (ask : CoreAsk) (answer : Answer) → next_ask s.program core.local ≡ ask → FitsAsk ask answer
       → given.item ≡ unit_record s.program core.local answer → (sent taken : List Reply)
       → reply_to s.policy core.tags given.item given.found ++ sent ≡ reply_in answer ++ taken
       → (reply_to s.policy core.tags given.item given.found ≡ reply_in answer) × (sent ≡ taken)
@@ -132,7 +132,7 @@ module _ (s : Setup) (drawn served : List Change) (out : List ℕ) (c : ℕ) whe
   replies_apart core given Ended (Took t) asks fits item sent taken e = absurd fits
   replies_apart core given Ended (Replied reply) asks fits item sent taken e = absurd fits
 
-  agrees_at : (core : Core) (given : Given) (ask : CoreAsk) (answer : Answer) → next_ask s.program core.local ≡ ask → Fits ask answer → IsUnit core answer given
+  agrees_at : (core : Core) (given : Given) (ask : CoreAsk) (answer : Answer) → next_ask s.program core.local ≡ ask → FitsAsk ask answer → IsUnit core answer given
       → AgreesWith answer given.found (tags_after s.policy core.tags given.item given.found)
   agrees_at core given ask (Took t) asks fits unit = tt
   agrees_at core given ask (Replied reply) asks fits unit =
@@ -190,7 +190,7 @@ module _ (s : Setup) (drawn served : List Change) (out : List ℕ) (c : ℕ) whe
     touch = refl;
   }
 
-  notes_at : (core : Core) (given : Given) (ask : CoreAsk) (answer : Answer) → next_ask s.program core.local ≡ ask → Fits ask answer → IsUnit core answer given
+  notes_at : (core : Core) (given : Given) (ask : CoreAsk) (answer : Answer) → next_ask s.program core.local ≡ ask → FitsAsk ask answer → IsUnit core answer given
       → note_by ask answer ≡ note_of given.item (tags_after s.policy core.tags given.item given.found)
   notes_at core given AsksNothing Nothing asks fits unit =
       sym (still_unnoted given.item (tags_after s.policy core.tags given.item given.found) (subst IsStill (sym unit.item) (still_record s.program core.local Nothing asks)))

@@ -12,8 +12,8 @@ laid bytes [] = bytes
 laid bytes (piece ∷ pieces) = laid (overwritten bytes piece.place piece.bytes) pieces
 
 -- a piece ends within so many bytes
-abbrev pub IsWithin : ℕ → Piece → Type 0
-IsWithin size piece = piece.place + length piece.bytes ≤ size
+abbrev pub LiesWithin : ℕ → Piece → Type 0
+LiesWithin size piece = piece.place + length piece.bytes ≤ size
 
 -- one of two pieces lies behind the other
 abbrev pub LieApart : Piece → Piece → Type 0
@@ -35,4 +35,4 @@ pieces_of (claims ∷ rest) = pieces_in claims ++ pieces_of rest
 -- a core has the bytes of its pieces and no others, and each of its pieces ends within so many bytes
 pub record AreLayable (size : ℕ) (claims : Claims) : Type 0 where
   pub whole : cut_length claims.pieces.items ≡ length claims.output.items
-  pub within : AllByRecursion (IsWithin size) (pieces_in claims)
+  pub within : AllByRecursion (LiesWithin size) (pieces_in claims)

@@ -18,7 +18,7 @@ use Rattle.machine.proofs.Output.{FollowFrom, output_joined}
 use Rattle.machine.proofs.Along.{at_along}
 use Rattle.machine.proofs.Histories.{IsCoreRun, IsComposed}
 use Rattle.machine.proofs.Composing.{compose}
-use Rattle.machine.proofs.Parts.{WordParts, words_of, IsNear, IsPartedRun, core_of_lists}
+use Rattle.machine.proofs.Parts.{WordParts, history_in, IsNear, IsPartedRun, core_of_lists}
 use Rattle.machine.proofs.Splitting.{parted_run, opening_stands}
 
 -- ---- the run
@@ -41,7 +41,7 @@ pub record AreRun (s : Setup) (words : WordParts) (InOutput : Piece → Type 0) 
   pub playable : IsPlayable s (marks_of marked)
   pub entries_are : entries s (marks_of marked) ≡ marked
   pub cores_are : (c : ℕ) → c < core_count s → (along s (marks_of marked)).cores c ≡ core_of_lists s (opening_core s c) (cores.answers c) (cores.givens c)
-  pub words_are : (n : ℕ) → IsNear InOutput ((along s (marks_of marked)).words n) (words_of words n ((along s (marks_of marked)).words n).count)
+  pub words_are : (n : ℕ) → IsNear InOutput ((along s (marks_of marked)).words n) (history_in words n ((along s (marks_of marked)).words n).count)
 
 no_run : (s : Setup) (Same : Word → Word → Type 0) (history : ℕ → ℕ → Word) (c : ℕ) (core : Core) (entries : List Entry) → entries ≡ []
     → IsCoreRun s Same history c core entries
@@ -59,13 +59,13 @@ parts_run s words InOutput cores marked parted = record {
   words_are = composed.stands;
 }
   where
-    going : (c : ℕ) → (c < core_count s) ⊎ (core_count s ≤ c) → IsCoreRun s (IsNear InOutput) (words_of words) c (opening_core s c) (part_of c marked)
+    going : (c : ℕ) → (c < core_count s) ⊎ (core_count s ≤ c) → IsCoreRun s (IsNear InOutput) (history_in words) c (opening_core s c) (part_of c marked)
     going c (inl below) = (parted_run s words InOutput c (opening_core s c) (cores.answers c) (cores.givens c) (part_of c marked) below (parted.runs c below)).going
-    going c (inr past) = no_run s (IsNear InOutput) (words_of words) c (opening_core s c) (part_of c marked) (parted.others c past)
+    going c (inr past) = no_run s (IsNear InOutput) (history_in words) c (opening_core s c) (part_of c marked) (parted.others c past)
 
-    composed : IsComposed s (IsNear InOutput) (words_of words) (opening s) marked
+    composed : IsComposed s (IsNear InOutput) (history_in words) (opening s) marked
     composed =
-        compose s (IsNear InOutput) (λ word other near. near.alike) (words_of words) marked (opening s) (opening_stands s words InOutput parted.first parted.untagged) parted.numbers (λ c. going c (cases_lt c (core_count s)))
+        compose s (IsNear InOutput) (λ word other near. near.alike) (history_in words) marked (opening s) (opening_stands s words InOutput parted.first parted.untagged) parted.numbers (λ c. going c (cases_lt c (core_count s)))
 
 -- ---- its output
 

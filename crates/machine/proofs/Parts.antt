@@ -11,7 +11,7 @@ use Rattle.syscall_drain.specs.declared.ask.CoreAsk.{CoreAsk}
 use Rattle.syscall_drain.specs.declared.ask.CoreAsk.TheVariants.{Touch as Touches}
 use Rattle.syscall_drain.specs.declared.ask.Answer.{Answer}
 use Rattle.syscall_drain.specs.declared.ask.Answer.TheVariants.{Nothing, Taken as Took, Reply as Replied}
-use Rattle.syscall_drain.specs.Units.{Fits, next_ask, answered, placed}
+use Rattle.syscall_drain.specs.Units.{FitsAsk, next_ask, answered, placed}
 use Rattle.syscall_drain.specs.Records.{unit_record}
 use Rattle.syscall_drain.specs.Runs.{local_after}
 use Rattle.syscall_drain.specs.Pieces.{Piece, piece_at}
@@ -38,7 +38,7 @@ AgreesWith (Replied reply) found after = (found ≡ 0) × (reply ≡ reply_of af
 
 -- an answer to the unit of a core, and its record with the tag found
 pub record AreParts (s : Setup) (core : Core) (answer : Answer) (given : Given) : Type 0 where
-  pub fits : Fits (next_ask s.program core.local) answer
+  pub fits : FitsAsk (next_ask s.program core.local) answer
   pub item : given.item ≡ unit_record s.program core.local answer
   pub agrees : AgreesWith answer given.found (tags_after s.policy core.tags given.item given.found)
 
@@ -57,8 +57,8 @@ pub record WordParts : Type 0 where
   pub payloads : ℕ → ℕ → ℕ
   pub tags : ℕ → ℕ → ℕ
 
-abbrev pub words_of : WordParts → History
-words_of words n k = record { count = k; payload = words.payloads n k; tag = words.tags n k; pieces = [] }
+abbrev pub history_in : WordParts → History
+history_in words n k = record { count = k; payload = words.payloads n k; tag = words.tags n k; pieces = [] }
 
 -- a word of the machine beside it: alike, and each piece claimed on it stands in the output
 pub record IsNear (InOutput : Piece → Type 0) (word other : Word) : Type 0 where

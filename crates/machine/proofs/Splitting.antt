@@ -21,7 +21,7 @@ use Rattle.syscall_drain.specs.declared.task.Task.TheVariants.{Over, Quiet, Acce
 use Rattle.syscall_drain.specs.declared.task.QuietReason.TheVariants.{Blank, Faulted, Plain, Return}
 use Rattle.syscall_drain.specs.Locals.{Local}
 use Rattle.syscall_drain.specs.Tasks.{task_of}
-use Rattle.syscall_drain.specs.Units.{Fits, next_ask, task_ask, answered, taken_of, placed}
+use Rattle.syscall_drain.specs.Units.{FitsAsk, next_ask, task_ask, answered, taken_of, placed}
 use Rattle.syscall_drain.specs.Records.{task_record, unit_record}
 use Rattle.syscall_drain.specs.Runs.{local_after}
 use Rattle.syscall_drain.specs.Pieces.{Piece, piece_at}
@@ -34,7 +34,7 @@ use Rattle.machine.specs.States.{Core, Word, opening}
 use Rattle.machine.specs.Steps.{Finding, Accessed, core_given, record_given, tags_given, answer_to, note_of, notes_of, found_in, word_asked, touched, left}
 use Rattle.machine.proofs.ByAsk.{left_count, left_payload, left_tag, left_pieces}
 use Rattle.machine.proofs.Histories.{found_at, core_next, core_after, IsInHistory, word_in, MakesEntry, IsCoreRun, IsAlike, StandsIn}
-use Rattle.machine.proofs.Parts.{finding_of, AgreesWith, AreParts, core_of_parts, WordParts, words_of, IsNear, StandsInBoth, StandsBy, IsPartedUnit, IsPartedRun, notes_by, core_of_lists}
+use Rattle.machine.proofs.Parts.{finding_of, AgreesWith, AreParts, core_of_parts, WordParts, history_in, IsNear, StandsInBoth, StandsBy, IsPartedUnit, IsPartedRun, notes_by, core_of_lists}
 
 -- ---- one unit of a core
 
@@ -58,7 +58,7 @@ tags_of_parts s core answer given parts = by_answer answer parts.item parts.agre
     by_answer (Replied reply) item agrees = sym (ap₂ after (item ∙ replied_record s core.local reply) agrees.0)
 
 -- the answer
-answer_of_parts : (ask : CoreAsk) (answer : Answer) (found : ℕ) (after : Tags) → Fits ask answer → AgreesWith answer found after
+answer_of_parts : (ask : CoreAsk) (answer : Answer) (found : ℕ) (after : Tags) → FitsAsk ask answer → AgreesWith answer found after
     → answer_to ask (finding_of answer found) after ≡ answer
 answer_of_parts AsksNothing Nothing found after fits agrees = refl
 answer_of_parts AsksNothing (Took t) found after fits agrees = absurd fits
@@ -123,7 +123,7 @@ spent_tag s core t found word op asks spent = spent_task s core t found word op 
 module _ (s : Setup) (words : WordParts) (InOutput : Piece → Type 0) where
   -- an access finds in the word of the machine what it found in both histories
   found_near : (core : Core) (given : Given) (word : ℕ) (op : Op) (t : Taken) → StandsInBoth s words InOutput core given word op t → (w : Word)
-      → IsAlike w (words_of words word t.number) → found_in s w ≡ t
+      → IsAlike w (history_in words word t.number) → found_in s w ≡ t
   found_near core given word op t stands w near =
       ap₂ (λ (number old : ℕ). record { number = number; old = old; spent = nat_le s.limit number }) near.count (near.payload ∙ stands.payload)
       ∙ ap (λ (spent : Bool). record { number = t.number; old = t.old; spent = spent }) (sym stands.spent)
@@ -143,8 +143,8 @@ module _ (s : Setup) (words : WordParts) (InOutput : Piece → Type 0) where
   -- and leaves there what is next in both
   left_near : (core : Core) (given : Given) (word : ℕ) (op : Op) (t : Taken) → next_ask s.program core.local ≡ Touches word op
       → given.item ≡ unit_record s.program core.local (Took t)
-      → StandsInBoth s words InOutput core given word op t → (w : Word) → IsNear InOutput w (words_of words word t.number)
-      → IsNear InOutput (left s core w) (words_of words word (suc t.number))
+      → StandsInBoth s words InOutput core given word op t → (w : Word) → IsNear InOutput w (history_in words word t.number)
+      → IsNear InOutput (left s core w) (history_in words word (suc t.number))
   left_near core given word op t asks item stands w near =
       let same : found_in s w ≡ t = found_near core given word op t stands w near.alike in
       let tag : w.tag ≡ given.found = (near.alike).tag ∙ stands.tag in
@@ -163,7 +163,7 @@ module _ (s : Setup) (words : WordParts) (InOutput : Piece → Type 0) where
 
   -- ---- one unit of a core along the histories
 
-  word_of_access : (ask : CoreAsk) (answer : Answer) → Fits ask answer → word_asked ask ≡ word_in (access_by ask answer)
+  word_of_access : (ask : CoreAsk) (answer : Answer) → FitsAsk ask answer → word_asked ask ≡ word_in (access_by ask answer)
   word_of_access AsksNothing answer fits = refl
   word_of_access (Touches word op) Nothing fits = absurd fits
   word_of_access (Touches word op) (Took t) fits = refl
@@ -171,14 +171,14 @@ module _ (s : Setup) (words : WordParts) (InOutput : Piece → Type 0) where
   word_of_access (Meets item) answer fits = refl
   word_of_access Ended answer fits = refl
 
-  touched_word : (core : Core) (answer : Answer) → Fits (next_ask s.program core.local) answer
+  touched_word : (core : Core) (answer : Answer) → FitsAsk (next_ask s.program core.local) answer
       → touched s core ≡ word_in (access_by (next_ask s.program core.local) answer)
   unfolding touched
   touched_word core answer fits = word_of_access (next_ask s.program core.local) answer fits
 
   found_in_both : (core : Core) (given : Given) (ask : CoreAsk) (answer : Answer) → next_ask s.program core.local ≡ ask
       → given.item ≡ unit_record s.program core.local answer
-      → StandsBy s words InOutput core given ask answer → IfSome (access_by ask answer) (IsInHistory s (IsNear InOutput) (words_of words) core)
+      → StandsBy s words InOutput core given ask answer → IfSome (access_by ask answer) (IsInHistory s (IsNear InOutput) (history_in words) core)
   found_in_both core given (Touches word op) (Took t) asks item stands = record {
     count = refl;
     payload = stands.payload;
@@ -190,14 +190,14 @@ module _ (s : Setup) (words : WordParts) (InOutput : Piece → Type 0) where
   found_in_both core given (Meets item) answer asks is stands = tt
   found_in_both core given Ended answer asks item stands = tt
 
-  finding_is : (core : Core) (given : Given) (ask : CoreAsk) (answer : Answer) → Fits ask answer → StandsBy s words InOutput core given ask answer
-      → found_at s (words_of words) (access_by ask answer) ≡ finding_of answer given.found
+  finding_is : (core : Core) (given : Given) (ask : CoreAsk) (answer : Answer) → FitsAsk ask answer → StandsBy s words InOutput core given ask answer
+      → found_at s (history_in words) (access_by ask answer) ≡ finding_of answer given.found
   finding_is core given AsksNothing Nothing fits stands = refl
   finding_is core given AsksNothing (Took t) fits stands = absurd fits
   finding_is core given AsksNothing (Replied reply) fits stands = absurd fits
   finding_is core given (Touches word op) Nothing fits stands = absurd fits
   finding_is core given (Touches word op) (Took t) fits stands =
-      ap₂ (λ (u : Taken) (found : ℕ). Accessed u found) (found_near core given word op t stands (words_of words word t.number) (record { count = refl; payload = refl; tag = refl })) stands.tag
+      ap₂ (λ (u : Taken) (found : ℕ). Accessed u found) (found_near core given word op t stands (history_in words word t.number) (record { count = refl; payload = refl; tag = refl })) stands.tag
   finding_is core given (Touches word op) (Replied reply) fits stands = absurd fits
   finding_is core given (Meets item) Nothing fits stands = absurd fits
   finding_is core given (Meets item) (Took t) fits stands = absurd fits
@@ -208,7 +208,7 @@ module _ (s : Setup) (words : WordParts) (InOutput : Piece → Type 0) where
 
   parted_makes : (c : ℕ) (core : Core) (answer : Answer) (given : Given) (entry : Entry) → c < core_count s
       → IsPartedUnit s words InOutput core answer given entry
-      → MakesEntry s (IsNear InOutput) (words_of words) c core entry
+      → MakesEntry s (IsNear InOutput) (history_in words) c core entry
   parted_makes c core answer given entry below unit =
       let ask : CoreAsk = next_ask s.program core.local in
       record {
@@ -216,13 +216,13 @@ module _ (s : Setup) (words : WordParts) (InOutput : Piece → Type 0) where
         running = fits_running s.program core.local answer (unit.parts).fits;
         touches = touched_word core answer (unit.parts).fits ∙ sym (ap word_in unit.touch);
         found =
-            subst (λ (touch : Option Access). IfSome touch (IsInHistory s (IsNear InOutput) (words_of words) core)) (sym unit.touch) (found_in_both core given ask answer refl (unit.parts).item unit.stands);
+            subst (λ (touch : Option Access). IfSome touch (IsInHistory s (IsNear InOutput) (history_in words) core)) (sym unit.touch) (found_in_both core given ask answer refl (unit.parts).item unit.stands);
       }
 
   parted_next : (core : Core) (answer : Answer) (given : Given) (entry : Entry) → IsPartedUnit s words InOutput core answer given entry
-      → core_next s (words_of words) core entry ≡ core_of_parts s core answer given
+      → core_next s (history_in words) core entry ≡ core_of_parts s core answer given
   parted_next core answer given entry unit =
-      ap (λ (touch : Option Access). core_given s core (found_at s (words_of words) touch)) unit.touch
+      ap (λ (touch : Option Access). core_given s core (found_at s (history_in words) touch)) unit.touch
       ∙ ap (core_given s core) (finding_is core given (next_ask s.program core.local) answer (unit.parts).fits unit.stands)
       ∙ split_unit s core answer given unit.parts
 
@@ -230,8 +230,8 @@ module _ (s : Setup) (words : WordParts) (InOutput : Piece → Type 0) where
 
   -- a core goes along its log to the core of its lists
   pub record IsAlong (c : ℕ) (core : Core) (answers : List Answer) (givens : List Given) (entries : List Entry) : Type 0 where
-    pub going : IsCoreRun s (IsNear InOutput) (words_of words) c core entries
-    pub after : core_after s (words_of words) core entries ≡ core_of_lists s core answers givens
+    pub going : IsCoreRun s (IsNear InOutput) (history_in words) c core entries
+    pub after : core_after s (history_in words) core entries ≡ core_of_lists s core answers givens
 
   lists_none : (c : ℕ) (core : Core) → IsAlong c core [] [] []
   unfolding IsCoreRun core_after local_after tags_fold folded
@@ -243,11 +243,11 @@ module _ (s : Setup) (words : WordParts) (InOutput : Piece → Type 0) where
       → IsAlong c core (answer ∷ answers) (given ∷ givens) (entry ∷ entries)
   unfolding IsCoreRun core_after local_after tags_fold folded
   lists_more c core answer given entry answers givens entries below unit rest =
-      let next : core_next s (words_of words) core entry ≡ core_of_parts s core answer given = parted_next core answer given entry unit in
+      let next : core_next s (history_in words) core entry ≡ core_of_parts s core answer given = parted_next core answer given entry unit in
       record {
         going =
-            (parted_makes c core answer given entry below unit, subst (λ (d : Core). IsCoreRun s (IsNear InOutput) (words_of words) c d entries) (sym next) rest.going);
-        after = ap (λ (d : Core). core_after s (words_of words) d entries) next ∙ rest.after
+            (parted_makes c core answer given entry below unit, subst (λ (d : Core). IsCoreRun s (IsNear InOutput) (history_in words) c d entries) (sym next) rest.going);
+        after = ap (λ (d : Core). core_after s (history_in words) d entries) next ∙ rest.after
             ∙ ap (λ (notes : List CallNote). record (core_of_lists s core (answer ∷ answers) (given ∷ givens)) { notes = notes })
             (append_assoc core.notes (note_of given.item (tags_after s.policy core.tags given.item given.found)) (notes_by s.policy (tags_after s.policy core.tags given.item given.found) givens));
       }
@@ -265,7 +265,7 @@ module _ (s : Setup) (words : WordParts) (InOutput : Piece → Type 0) where
 
   -- the first words of a run stand in histories that begin with the first payloads and with no tags
   pub opening_stands : ((n : ℕ) → words.payloads n 0 ≡ first_word s.program.layout n) → ((n : ℕ) → words.tags n 0 ≡ 0)
-      → StandsIn (IsNear InOutput) (words_of words) (opening s)
+      → StandsIn (IsNear InOutput) (history_in words) (opening s)
   opening_stands first none n = record {
     alike = record { count = refl; payload = sym (first n); tag = sym (none n) };
     pieces = All-nil InOutput;

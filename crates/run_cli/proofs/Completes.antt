@@ -12,7 +12,7 @@ use Rattle.run_cli.specs.Seen.{FilesSeen, Seen}
 use Rattle.run_cli.specs.Asked.{ImageAsked, RunAsked, ReplayAsked, Asked, Run, Replay, Inspect}
 use Rattle.run_cli.specs.Words.{Reads, ReadsOffline}
 use Rattle.run_cli.specs.Work.{SaysReport, IsImage, IsSetupOf, IsReplayOf, setup_told}
-use Rattle.run_cli.specs.Lines.{status_of}
+use Rattle.run_cli.specs.Lines.{exit_status}
 use Rattle.run_cli.specs.Causes.{Caused, IsLong, HasReportFault, HasDifference, HasBadLine, HasBadOrder}
 use Rattle.run_cli.specs.Endings.{Answer, Answers, Ended, Refused, CutReport, OutputCut, ReportCut}
 use Rattle.run_cli.specs.Completeness.{AreToldOf, NothingRose, Completes, CompletesReplay, CompletesMap}
@@ -31,7 +31,7 @@ AreCalm old new = (name : List ℕ) → Rose (old.faults name) (new.faults name)
 -- what is asked for is answered with such a status, and is refused for want of memory alone
 record Can (asked : Asked) (files : FilesSeen) (IsClass : ℕ → Type 0) : Type 0 where
   answer : (given : Answer) → Answers files asked given → given.class ≤ 5 → IsClass given.class
-  refusal : (new : FilesSeen) (ending : Ending) → AreCalm files new → Caused asked files new ending → status_of ending ≡ 71
+  refusal : (new : FilesSeen) (ending : Ending) → AreCalm files new → Caused asked files new ending → exit_status ending ≡ 71
 
 report_rose : (report : Option (List ℕ)) (old new : SinkSeen) → CutReport report old new → Rose old.faults new.faults
 report_rose None old new cut = absurd cut
@@ -41,12 +41,12 @@ not_cut : (answer : Answer) (old new : Seen) → NothingRose old new → (Output
 not_cut answer old new calm (inl cut) = calm.out cut.out.rose
 not_cut answer old new calm (inr cut) = calm.report (report_rose answer.report _ _ cut.report)
 
-refused_so : (words : List (List ℕ)) (old new : Seen) (ending : Ending) (asked : Asked) (IsClass : ℕ → Type 0) → Reads words asked → Can asked old.files IsClass → NothingRose old new → Refused Reads words old new ending → status_of ending ≡ 71
+refused_so : (words : List (List ℕ)) (old new : Seen) (ending : Ending) (asked : Asked) (IsClass : ℕ → Type 0) → Reads words asked → Can asked old.files IsClass → NothingRose old new → Refused Reads words old new ending → exit_status ending ≡ 71
 refused_so words old new ending asked IsClass read can calm refused =
     can.refusal new.files ending calm.files
     (subst (λ (a : Asked). Caused a old.files new.files ending) (reads_once words refused.asked asked refused.read read) refused.caused)
 
-completes_by : (words : List (List ℕ)) (old new : Seen) (ending : Ending) (asked : Asked) (IsClass : ℕ → Type 0) → Reads words asked → Can asked old.files IsClass → NothingRose old new → Ended Reads words old new ending → IsClass (status_of ending) ⊎ (status_of ending ≡ 71)
+completes_by : (words : List (List ℕ)) (old new : Seen) (ending : Ending) (asked : Asked) (IsClass : ℕ → Type 0) → Reads words asked → Can asked old.files IsClass → NothingRose old new → Ended Reads words old new ending → IsClass (exit_status ending) ⊎ (exit_status ending ≡ 71)
 completes_by words old new (Class c) asked IsClass read can calm ended =
     let answers : Answers old.files asked ended.answer = subst (λ (a : Asked). Answers old.files a ended.answer) (reads_once words ended.answered.asked asked ended.answered.read read) ended.answered.answers in
     inl (subst IsClass (sym ended.class_is) (can.answer ended.answer answers (subst (λ (n : ℕ). n ≤ 5) ended.class_is ended.within)))
@@ -73,7 +73,7 @@ run_told files o s told = record {
   told = told;
 }
 
-run_refusal : (files new : FilesSeen) (o : RunAsked) (s : Setup) (ending : Ending) → HasTold (Run o) files s → AreCalm files new → Caused (Run o) files new ending → status_of ending ≡ 71
+run_refusal : (files new : FilesSeen) (o : RunAsked) (s : Setup) (ending : Ending) → HasTold (Run o) files s → AreCalm files new → Caused (Run o) files new ending → exit_status ending ≡ 71
 run_refusal files new o s (Class class) told calm caused = absurd caused
 run_refusal files new o s Words told calm caused = absurd caused
 run_refusal files new o s (Image fault) told calm caused = absurd (no_image_fault (Run o) files new s.program.layout fault (accepted_of (Run o) files s told) caused)
@@ -88,7 +88,7 @@ run_refusal files new o s Memory told calm caused = refl
 run_refusal files new o s (Read kind) told calm caused = absurd (calm caused.name caused.rose)
 run_refusal files new o s Write told calm caused = absurd caused
 
-pub completes : (words : List (List ℕ)) (old new : Seen) (ending : Ending) → Ended Reads words old new ending → Completes words old new (status_of ending)
+pub completes : (words : List (List ℕ)) (old new : Seen) (ending : Ending) → Ended Reads words old new ending → Completes words old new (exit_status ending)
 completes words old new ending ended s can calm =
     completes_by words old new ending (Run can.asked) (λ n. n ≤ 5) can.reads
     (record {
@@ -162,7 +162,7 @@ no_long_report files new o s can long =
     not_long (files.held o.report) can.bytes 536870912 can.held can.report.contents.told can.report.contents.within
     (subst (λ (name : List ℕ). IfSome (files.held name) (λ bytes. 536870912 < length bytes)) (sym named) long.told)
 
-replay_refusal : (files new : FilesSeen) (o : ReplayAsked) (s : Setup) (ending : Ending) → Replays files o s → HasTold (Replay o) files s → AreCalm files new → Caused (Replay o) files new ending → status_of ending ≡ 71
+replay_refusal : (files new : FilesSeen) (o : ReplayAsked) (s : Setup) (ending : Ending) → Replays files o s → HasTold (Replay o) files s → AreCalm files new → Caused (Replay o) files new ending → exit_status ending ≡ 71
 replay_refusal files new o s (Class class) can told calm caused = absurd caused
 replay_refusal files new o s Words can told calm caused = absurd caused
 replay_refusal files new o s (Image fault) can told calm caused = absurd (no_image_fault (Replay o) files new s.program.layout fault (accepted_of (Replay o) files s told) caused)
@@ -177,7 +177,7 @@ replay_refusal files new o s Memory can told calm caused = refl
 replay_refusal files new o s (Read kind) can told calm caused = absurd (calm caused.name caused.rose)
 replay_refusal files new o s Write can told calm caused = absurd caused
 
-pub completes_replay : (words : List (List ℕ)) (old new : Seen) (ending : Ending) → Ended Reads words old new ending → CompletesReplay words old new (status_of ending)
+pub completes_replay : (words : List (List ℕ)) (old new : Seen) (ending : Ending) → Ended Reads words old new ending → CompletesReplay words old new (exit_status ending)
 completes_replay words old new ending ended can calm =
     let replays : Replays old.files can.asked can.setup = record {
       held = can.report;
@@ -210,7 +210,7 @@ map_accepted files asked image is told = record {
   told = told;
 }
 
-map_refusal : (files new : FilesSeen) (asked : ImageAsked) (image : Layout) (ending : Ending) → HasAccepted (Inspect asked) files image → AreCalm files new → Caused (Inspect asked) files new ending → status_of ending ≡ 71
+map_refusal : (files new : FilesSeen) (asked : ImageAsked) (image : Layout) (ending : Ending) → HasAccepted (Inspect asked) files image → AreCalm files new → Caused (Inspect asked) files new ending → exit_status ending ≡ 71
 map_refusal files new asked image (Class class) can calm caused = absurd caused
 map_refusal files new asked image Words can calm caused = absurd caused
 map_refusal files new asked image (Image fault) can calm caused = absurd (no_image_fault (Inspect asked) files new image fault can caused)
@@ -225,7 +225,7 @@ map_refusal files new asked image Memory can calm caused = refl
 map_refusal files new asked image (Read kind) can calm caused = absurd (calm caused.name caused.rose)
 map_refusal files new asked image Write can calm caused = absurd caused
 
-pub completes_map : (words : List (List ℕ)) (old new : Seen) (ending : Ending) → Ended Reads words old new ending → CompletesMap words old new (status_of ending)
+pub completes_map : (words : List (List ℕ)) (old new : Seen) (ending : Ending) → Ended Reads words old new ending → CompletesMap words old new (exit_status ending)
 completes_map words old new ending ended image can calm =
     completes_by words old new ending (Inspect can.asked) (λ n. n ≡ 0) can.reads
     (record {
@@ -240,10 +240,10 @@ no_run_beside words rest (Run o) apart read are = apart o refl
 no_run_beside words rest (Replay o) apart read are = name_apart (codes "replay") (codes "run") (λ same. omega (arith, same)) words read.rest rest read.words_are are
 no_run_beside words rest (Inspect o) apart read are = name_apart (codes "inspect") (codes "run") (λ same. omega (arith, same)) words read.rest rest read.words_are are
 
-pub offline_replay : (words : List (List ℕ)) (old new : Seen) (ending : Ending) → Ended ReadsOffline words old new ending → CompletesReplay words old new (status_of ending)
+pub offline_replay : (words : List (List ℕ)) (old new : Seen) (ending : Ending) → Ended ReadsOffline words old new ending → CompletesReplay words old new (exit_status ending)
 offline_replay words old new ending ended can calm =
     completes_replay words old new ending (offline_ended words old new ending (λ rest are. no_run_beside words rest (Replay can.asked) (λ o same. cc) can.reads are) ended) can calm
 
-pub offline_map : (words : List (List ℕ)) (old new : Seen) (ending : Ending) → Ended ReadsOffline words old new ending → CompletesMap words old new (status_of ending)
+pub offline_map : (words : List (List ℕ)) (old new : Seen) (ending : Ending) → Ended ReadsOffline words old new ending → CompletesMap words old new (exit_status ending)
 offline_map words old new ending ended image can calm =
     completes_map words old new ending (offline_ended words old new ending (λ rest are. no_run_beside words rest (Inspect can.asked) (λ o same. cc) can.reads are) ended) image can calm

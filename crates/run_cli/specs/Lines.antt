@@ -9,17 +9,17 @@ use Rattle.run_cli.specs.declared.files.FileKind.TheVariants.{Image as ImageFile
 use Rattle.run_cli.specs.declared.ending.Ending.{Ending}
 use Rattle.run_cli.specs.declared.ending.Ending.TheVariants.{Class, Words, Image, Policy, Differs, Report, Long, Memory, Read, Write}
 
-abbrev pub status_of : Ending → ℕ
-status_of (Class class) = class
-status_of Words = 64
-status_of (Image fault) = 65
-status_of (Policy kind table key) = 66
-status_of (Differs place) = 67
-status_of (Report line kind) = 68
-status_of (Long file) = 69
-status_of Memory = 71
-status_of (Read file) = 74
-status_of Write = 75
+abbrev pub exit_status : Ending → ℕ
+exit_status (Class class) = class
+exit_status Words = 64
+exit_status (Image fault) = 65
+exit_status (Policy kind table key) = 66
+exit_status (Differs place) = 67
+exit_status (Report line kind) = 68
+exit_status (Long file) = 69
+exit_status Memory = 71
+exit_status (Read file) = 74
+exit_status Write = 75
 
 abbrev pub file_name : FileKind → List ℕ
 file_name ImageFile = codes "image"
@@ -42,4 +42,4 @@ cause_fields Write = []
 
 -- the line of a refusal: one space between two fields, and a line feed
 abbrev pub line_of : Ending → List ℕ
-line_of ending = spelled (codes "refused" ∷ decimal (status_of ending) ∷ cause_fields ending)
+line_of ending = spelled (codes "refused" ∷ decimal (exit_status ending) ∷ cause_fields ending)

@@ -4,7 +4,7 @@ ghost use Rattle.run_cli.specs.declared.ending.Ending.{Ending as EndingSeen};
 ghost use Rattle.run_cli.specs.Seen.{files_seen, sinks_seen, seen};
 ghost use Rattle.run_cli.specs.Asked.{Asked, run_in};
 ghost use Rattle.run_cli.specs.Words.{Reads};
-ghost use Rattle.run_cli.specs.Lines.{status_of};
+ghost use Rattle.run_cli.specs.Lines.{exit_status};
 ghost use Rattle.run_cli.specs.Endings.{Ended};
 ghost use Rattle.run_cli.specs.Completeness.{Completes, CompletesReplay, CompletesMap};
 ghost use Rattle.run_cli.specs.Forms.{Came};
@@ -80,7 +80,7 @@ pub fn command<F: Files, O: Sink, R: Sink, G: Gate, X: Threads + Wait + Sync>(
     report: &mut R,
     gate: &G,
 ) -> u8
-    ensures ended { (ending : EndingSeen) × (result ≡ status_of ending) × Ended Reads (map string_bytes words.now)
+    ensures ended { (ending : EndingSeen) × (result ≡ exit_status ending) × Ended Reads (map string_bytes words.now)
         (seen (files_seen (F.held files.old) (F.faults files.old)) (sinks_seen (O.written out.old) (O.faults out.old) (R.written report.old) (R.faults report.old)))
         (seen (files_seen (F.held files.new) (F.faults files.new)) (sinks_seen (O.written out.new) (O.faults out.new) (R.written report.new) (R.faults report.new)))
         ending }

@@ -1,6 +1,6 @@
 //! How a command ended.
 ghost use Rattle.std.specs.Prelude.{◌≡◌};
-ghost use Rattle.run_cli.specs.Lines.{status_of};
+ghost use Rattle.run_cli.specs.Lines.{exit_status};
 
 use crate::files::FileKind;
 use elf_image::ImageFault;
@@ -42,7 +42,7 @@ pub enum Ending {
 impl Ending {
     /// The status that the program ends with.
     pub fn status(self) -> u8
-        ensures { result ≡ status_of self }
+        ensures { result ≡ exit_status self }
     {
         match self {
             Ending::Class(class) => class,

@@ -26,13 +26,13 @@ use std::{env, io};
 /// The status where the words of the command line cannot be had from the system.
 const NO_WORDS: u8 = 72;
 
-fn words_of(rt: &HostRuntime) -> io::Result<Vec<String>> {
+fn command_words(rt: &HostRuntime) -> io::Result<Vec<String>> {
     let words = env::args(rt)?.skip(1).collect(rt.alloc())?;
     Ok(words)
 }
 
 fn main(rt: HostRuntime) -> ExitCode {
-    let Ok(words) = words_of(&rt) else {
+    let Ok(words) = command_words(&rt) else {
         return ExitCode::from(NO_WORDS);
     };
     let mut files = HostFiles::new(&rt);

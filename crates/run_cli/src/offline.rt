@@ -5,7 +5,7 @@ ghost use Rattle.run_cli.specs.declared.ending.Ending.{Ending as EndingSeen};
 ghost use Rattle.run_cli.specs.Seen.{files_seen, sink_seen, sinks_seen, seen};
 ghost use Rattle.run_cli.specs.Asked.{Asked, image_in, replay_in};
 ghost use Rattle.run_cli.specs.Words.{ReadsOffline};
-ghost use Rattle.run_cli.specs.Lines.{status_of};
+ghost use Rattle.run_cli.specs.Lines.{exit_status};
 ghost use Rattle.run_cli.specs.Endings.{text_answer, Ended};
 ghost use Rattle.run_cli.specs.Completeness.{CompletesReplay, CompletesMap};
 ghost use Rattle.run_cli.specs.Forms.{Delivered, Came};
@@ -103,7 +103,7 @@ pub fn offline<F: Files, O: Sink, R: Sink>(
     out: &mut O,
     report: &mut R,
 ) -> u8
-    ensures ended { (ending : EndingSeen) × (result ≡ status_of ending) × Ended ReadsOffline (map string_bytes words.now)
+    ensures ended { (ending : EndingSeen) × (result ≡ exit_status ending) × Ended ReadsOffline (map string_bytes words.now)
         (seen (files_seen (F.held files.old) (F.faults files.old)) (sinks_seen (O.written out.old) (O.faults out.old) (R.written report.old) (R.faults report.old)))
         (seen (files_seen (F.held files.new) (F.faults files.new)) (sinks_seen (O.written out.new) (O.faults out.new) (R.written report.new) (R.faults report.new)))
         ending }

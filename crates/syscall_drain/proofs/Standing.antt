@@ -3,7 +3,7 @@ use Rattle.std.proofs.Common.{◌≡◌, ℕ, ◌+◌, ◌<◌, ◌≤◌, List,
 use Rattle.std.specs.Option.{ForNone}
 use Rattle.syscall_drain.specs.Programs.{Program}
 use Rattle.syscall_drain.specs.Locals.{Local, opening_local}
-use Rattle.syscall_drain.specs.Units.{Fits, next_ask, answered, placed}
+use Rattle.syscall_drain.specs.Units.{FitsAsk, next_ask, answered, placed}
 use Rattle.syscall_drain.specs.Runs.{local_after, IsLocalRun}
 use Rattle.syscall_drain.specs.Sound.{IsSound}
 use Rattle.syscall_drain.specs.Pieces.{PlacesBytes}
@@ -17,22 +17,22 @@ unfolding local_after
 local_after_more program budget l [] last = refl
 local_after_more program budget l (answer ∷ rest) last = local_after_more program budget (answered program budget l answer) rest last
 
-pub local_run_more : (program : Program) (budget : ℕ) (l : Local) (answers : List Answer) (last : Answer) → IsLocalRun program budget l answers → Fits (next_ask program (local_after program budget l answers)) last → IsLocalRun program budget l (answers ++ last ∷ [])
+pub local_run_more : (program : Program) (budget : ℕ) (l : Local) (answers : List Answer) (last : Answer) → IsLocalRun program budget l answers → FitsAsk (next_ask program (local_after program budget l answers)) last → IsLocalRun program budget l (answers ++ last ∷ [])
 unfolding local_after IsLocalRun
 local_run_more program budget l [] last run fits = (fits, tt)
 local_run_more program budget l (answer ∷ rest) last run fits = (run.0, local_run_more program budget (answered program budget l answer) rest last run.1 fits)
 
 -- the same, with numbers and states in the place of the cores
-stands_more : (program : Program) (budget new_budget core new_core : ℕ) (old new : Local) (answers : List Answer) (last : Answer) → new_budget ≡ budget → new_core ≡ core → new ≡ answered program budget old last → Fits (next_ask program old) last → IsLocalRun program budget (opening_local program core) answers → old ≡ local_after program budget (opening_local program core) answers
+stands_more : (program : Program) (budget new_budget core new_core : ℕ) (old new : Local) (answers : List Answer) (last : Answer) → new_budget ≡ budget → new_core ≡ core → new ≡ answered program budget old last → FitsAsk (next_ask program old) last → IsLocalRun program budget (opening_local program core) answers → old ≡ local_after program budget (opening_local program core) answers
     → IsLocalRun program new_budget (opening_local program new_core) (answers ++ last ∷ []) × (new ≡ local_after program new_budget (opening_local program new_core) (answers ++ last ∷ []))
 stands_more program budget new_budget core new_core old new answers last same_budget same_core step fits run at =
     let P : ℕ → ℕ → Type 0 = λ b c. IsLocalRun program b (opening_local program c) (answers ++ last ∷ []) × (new ≡ local_after program b (opening_local program c) (answers ++ last ∷ [])) in
-    let Q : Local → Type 0 = λ l. Fits (next_ask program l) last in
+    let Q : Local → Type 0 = λ l. FitsAsk (next_ask program l) last in
     let run_here = local_run_more program budget (opening_local program core) answers last run (subst Q at fits) in
     let at_here = step ∙ ap (λ (l : Local). answered program budget l last) at ∙ sym (local_after_more program budget (opening_local program core) answers last) in
     subst (λ (b : ℕ). P b new_core) (sym same_budget) (subst (λ (c : ℕ). P budget c) (sym same_core) (run_here, at_here))
 
-pub has_spent : (program : Program) (old new : CoreState) (given : Answer) → budget_of new ≡ budget_of old → core_of new ≡ core_of old → local_of new ≡ answered program (budget_of old) (local_of old) given → Fits (next_ask program (local_of old)) given → HasSpent program old new given
+pub has_spent : (program : Program) (old new : CoreState) (given : Answer) → budget_of new ≡ budget_of old → core_of new ≡ core_of old → local_of new ≡ answered program (budget_of old) (local_of old) given → FitsAsk (next_ask program (local_of old)) given → HasSpent program old new given
 has_spent program old new given same_budget same_core step fits = record {
   step = step;
   budget = same_budget;
@@ -59,7 +59,7 @@ kept program budget old new answer step less sound =
       sound = answered_sound program budget old answer sound;
     })
 
-pub places : (program : Program) (budget : ℕ) (old new : Local) (answer : Answer) (place : Option ℕ) → new ≡ answered program budget old answer → place ≡ placed program old answer → Fits (next_ask program old) answer → IsSound old → PlacesBytes program old new place
+pub places : (program : Program) (budget : ℕ) (old new : Local) (answer : Answer) (place : Option ℕ) → new ≡ answered program budget old answer → place ≡ placed program old answer → FitsAsk (next_ask program old) answer → IsSound old → PlacesBytes program old new place
 places program budget old new answer place step is fits sound =
     let P : Local → Option ℕ → Type 0 = λ l o. PlacesBytes program old l o in
     let bytes = places_bytes program budget old answer (fits_running program old answer fits) sound in

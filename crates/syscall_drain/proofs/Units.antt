@@ -9,7 +9,7 @@ use Rattle.rv_execute.specs.Harts.{HartState}
 use Rattle.syscall_drain.specs.Programs.{Program}
 use Rattle.syscall_drain.specs.Locals.{Local}
 use Rattle.syscall_drain.specs.Tasks.{task_of}
-use Rattle.syscall_drain.specs.Units.{Fits, next_ask, task_ask, place_asked, taken_of, after_task, budget_end, answered, placed}
+use Rattle.syscall_drain.specs.Units.{FitsAsk, next_ask, task_ask, place_asked, taken_of, after_task, budget_end, answered, placed}
 use Rattle.syscall_drain.specs.Pieces.{PlacesBytes}
 use Rattle.syscall_drain.specs.Sound.{IsSoundPhase, IsSound, due}
 use Rattle.syscall_drain.specs.declared.end.End.{End}
@@ -79,18 +79,18 @@ answered_below program budget l answer sound none less =
 -- ---- asking
 
 -- an ended core asks for nothing that an answer fits
-over_fits : (answer : Answer) → Fits Ended answer → ⊥
+over_fits : (answer : Answer) → FitsAsk Ended answer → ⊥
 over_fits Nothing fits = fits
 over_fits (Took t) fits = fits
 over_fits (Replied reply) fits = fits
 
-running_by : (program : Program) (h : HartState) (phase : Phase) (g : List ℕ) (u : ℕ) (ending : Option End) (answer : Answer) → Fits (next_ask program (record { hart = h; phase = phase; gathered = g; units = u; ending = ending })) answer → ending ≡ None
+running_by : (program : Program) (h : HartState) (phase : Phase) (g : List ℕ) (u : ℕ) (ending : Option End) (answer : Answer) → FitsAsk (next_ask program (record { hart = h; phase = phase; gathered = g; units = u; ending = ending })) answer → ending ≡ None
 unfolding next_ask task_of
 running_by program h phase g u (Some end) answer fits = absurd (over_fits answer fits)
 running_by program h phase g u None answer fits = refl
 
 -- a core whose ask an answer fits has not ended
-pub fits_running : (program : Program) (l : Local) (answer : Answer) → Fits (next_ask program l) answer → l.ending ≡ None
+pub fits_running : (program : Program) (l : Local) (answer : Answer) → FitsAsk (next_ask program l) answer → l.ending ≡ None
 fits_running program l answer fits = running_by program l.hart l.phase l.gathered l.units l.ending answer fits
 
 -- and one that has not ended asks for a unit

@@ -2,7 +2,7 @@
 use Rattle.std.specs.Prelude.{ℕ, List, [], ◌∷◌}
 use Rattle.syscall_drain.specs.Programs.{Program}
 use Rattle.syscall_drain.specs.Locals.{Local}
-use Rattle.syscall_drain.specs.Units.{Fits, next_ask, answered}
+use Rattle.syscall_drain.specs.Units.{FitsAsk, next_ask, answered}
 use Rattle.syscall_drain.specs.declared.ask.Answer.{Answer}
 
 -- the core after a list of answers
@@ -14,4 +14,4 @@ local_after program budget l (answer ∷ rest) = local_after program budget (ans
 unfoldable pub IsLocalRun : Program → ℕ → Local → List Answer → Type 0
 IsLocalRun program budget l [] = Unit {0}
 IsLocalRun program budget l (answer ∷ rest) =
-    Fits (next_ask program l) answer × IsLocalRun program budget (answered program budget l answer) rest
+    FitsAsk (next_ask program l) answer × IsLocalRun program budget (answered program budget l answer) rest

@@ -45,11 +45,11 @@ unfoldable pub next_ask : Program → Local → CoreAsk
 next_ask program l = task_ask l (task_of program l)
 
 -- the answer is of the kind that is asked for
-abbrev pub Fits : CoreAsk → Answer → Type 0
-Fits AsksNothing Nothing = Unit {0}
-Fits (Touches word op) (Took t) = Unit {0}
-Fits (Meets item) (Replied reply) = Unit {0}
-Fits _ _ = ⊥
+abbrev pub FitsAsk : CoreAsk → Answer → Type 0
+FitsAsk AsksNothing Nothing = Unit {0}
+FitsAsk (Touches word op) (Took t) = Unit {0}
+FitsAsk (Meets item) (Replied reply) = Unit {0}
+FitsAsk _ _ = ⊥
 
 -- ---- what an answer says
 

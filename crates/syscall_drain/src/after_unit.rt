@@ -151,7 +151,7 @@ impl LocalCore {
     }
 
     /// Spends a unit: the last one of the budget ends a core that has not ended otherwise.
-    pub fn spend(&mut self, budget: u32)
+    pub fn count_unit(&mut self, budget: u32)
         requires { self.old.units < 4294967295 }
         ensures { local_seen self.new ≡ spent_unit budget (local_seen self.old) }
     {
@@ -172,6 +172,6 @@ impl LocalCore {
         ensures { local_seen self.new ≡ answered guest.now budget (local_seen self.old) given }
     {
         self.go_on(guest, task, given);
-        self.spend(budget);
+        self.count_unit(budget);
     }
 }

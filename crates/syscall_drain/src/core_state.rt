@@ -58,7 +58,7 @@ fn opening_hart(image: &Image, core: u8) -> Hart
 impl CoreState {
     ghost use Rattle.elf_image.specs.Layout.{words_of};
     ghost use Rattle.syscall_drain.specs.Locals.{opening_local};
-    ghost use Rattle.syscall_drain.specs.Units.{Fits, next_ask, answered, placed, taken_of};
+    ghost use Rattle.syscall_drain.specs.Units.{FitsAsk, next_ask, answered, placed, taken_of};
     ghost use Rattle.syscall_drain.specs.Records.{unit_record};
     ghost use Rattle.syscall_drain.specs.Sound.{due, IsSound};
     ghost use Rattle.syscall_drain.specs.Pieces.{PlacesBytes};
@@ -100,7 +100,7 @@ impl CoreState {
     /// Spends the next unit, with the answer to what it asked.
     fn advance(&mut self, guest: &Guest, unit: NextUnit, given: Answer)
         requires unit { IsNextUnit guest.now (local_of self.old) unit }
-        requires asked { Fits unit.ask given }
+        requires asked { FitsAsk unit.ask given }
         requires numbered { (taken_of given).number < MOST_NUMBERS }
         ensures step { local_of self.new ≡ answered guest.now (budget_of self.old) (local_of self.old) given }
         ensures budget { budget_of self.new ≡ budget_of self.old }
@@ -112,7 +112,7 @@ impl CoreState {
     /// Spends the next unit, with the answer to what it asked, and gives the place in the output that it claimed.
     pub fn spend(&mut self, guest: &Guest, unit: NextUnit, given: Answer) -> Option<u32>
         requires unit { IsNextUnit guest.now (local_of self.old) unit }
-        requires asked { Fits unit.ask given }
+        requires asked { FitsAsk unit.ask given }
         requires numbered { (taken_of given).number < MOST_NUMBERS }
         ensures spent { HasSpent guest.now self.old self.new given }
         ensures placed { result ≡ placed guest.now (local_of self.old) given }
@@ -125,7 +125,7 @@ impl CoreState {
     /// The same, and the record of the unit.
     pub fn answer(&mut self, guest: &Guest, unit: NextUnit, given: Answer) -> Made
         requires unit { IsNextUnit guest.now (local_of self.old) unit }
-        requires asked { Fits unit.ask given }
+        requires asked { FitsAsk unit.ask given }
         requires numbered { (taken_of given).number < MOST_NUMBERS }
         ensures spent { HasSpent guest.now self.old self.new given }
         ensures item { result.item ≡ item_made unit.ask (unit_record guest.now (local_of self.old) given) }

@@ -1,5 +1,5 @@
 ghost use Rattle.std.specs.Prelude.{◌≡◌, IfSome};
-ghost use Rattle.syscall_drain.specs.Units.{Fits, taken_of};
+ghost use Rattle.syscall_drain.specs.Units.{FitsAsk, taken_of};
 
 use super::*;
 use elf_image::load;
@@ -10,7 +10,7 @@ use std::test::Fail;
 
 /// An answer to an ask: an access is the first to its word and finds this word.
 fn answer_to(ask: CoreAsk, word: u32) -> Option<Answer>
-    ensures fits { IfSome result (Fits ask) }
+    ensures fits { IfSome result (FitsAsk ask) }
     ensures first { IfSome result (λ given. (taken_of given).number ≡ 0) }
 {
     match ask {

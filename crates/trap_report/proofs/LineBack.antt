@@ -18,7 +18,7 @@ use Rattle.trap_report.specs.Fields.{fields, touch_fields, note_fields, trap_fie
 use Rattle.trap_report.specs.Forms.{has_form, is_in_range, has_shape, forms_read, word_text}
 use Rattle.trap_report.specs.Reading.{LineKind, FirstLine, Numbered, Counted, LineOf, LastLine, any_number, core_number, header_range, count_range, section_forms, end_forms, line_read}
 use Rattle.trap_report.specs.ReportLaws.{FitsTouch, FitsEnd}
-use Rattle.trap_report.specs.Matching.{IsWithin}
+use Rattle.trap_report.specs.Matching.{ReadsWithin}
 use Rattle.trap_report.specs.declared.form.ReportWord.{ReportWord}
 use Rattle.trap_report.specs.declared.form.ReportWord.TheVariants.{NameOf, CountOf, Exit as ExitWord, Trapped as TrappedWord, Fault as FaultWord, Budget as BudgetWord, Spent as SpentWord, End as EndWord}
 use Rattle.trap_report.specs.declared.form.Field.{Field}
@@ -56,8 +56,8 @@ told_first Last = 0
 -- the numbers of a line are in the ranges that the numbers of its header give
 abbrev pub InRanges : Numbers → ReportLine → Type 0
 InRanges numbers Version = Unit {0}
-InRanges numbers (Header name number) = IsWithin (header_range name ∷ []) number
-InRanges numbers (Count section number) = (number < 2 ^ 32) × IsWithin (count_range numbers section ∷ []) number
+InRanges numbers (Header name number) = ReadsWithin (header_range name ∷ []) number
+InRanges numbers (Count section number) = (number < 2 ^ 32) × ReadsWithin (count_range numbers section ∷ []) number
 InRanges numbers (UnitOf core entry) = (core < numbers.cores) × FitsTouch entry.touch
 InRanges numbers (NoteOf core note) = (core < numbers.cores) × (note.step < 2 ^ 32) × (note.call < 2 ^ 32)
 InRanges numbers (TrapOf core trap) = (core < numbers.cores) × (trap.step < 2 ^ 32) × (trap.kind < 2 ^ 8)
@@ -74,14 +74,14 @@ named_back word low high n w h l m =
     (in_range_too (Exactly word) _ (word_text word) _ refl (in_range_too (Decimal low high) _ (decimal n) _ (decimal_in_range low high n h l m) no_range))
     (number-decimal n (omega arith))
 
-header_back : (numbers : Numbers) (name : HeaderLine) (n : ℕ) → IsWithin (header_range name ∷ []) n → line_read numbers (Numbered name) (fields (Header name n)) ≡ Ok n
+header_back : (numbers : Numbers) (name : HeaderLine) (n : ℕ) → ReadsWithin (header_range name ∷ []) n → line_read numbers (Numbered name) (fields (Header name n)) ≡ Ok n
 header_back numbers Cores n h = line_read-numbered numbers Cores _ ∙ named_back (NameOf Cores) 1 8 n refl (omega (arith, h.1)) h.0 h.1
 header_back numbers Budget n h = line_read-numbered numbers Budget _ ∙ named_back (NameOf Budget) 1 1048576 n refl (omega (arith, h.1)) h.0 h.1
 header_back numbers Limit n h = line_read-numbered numbers Limit _ ∙ named_back (NameOf Limit) 1 4294967280 n refl (omega (arith, h.1)) h.0 h.1
 header_back numbers Stack n h = line_read-numbered numbers Stack _ ∙ named_back (NameOf Stack) 1 4096 n refl (omega (arith, h.1)) h.0 h.1
 header_back numbers Heap n h = line_read-numbered numbers Heap _ ∙ named_back (NameOf Heap) 0 4096 n refl (omega (arith, h.1)) h.0 h.1
 
-count_back : (numbers : Numbers) (section : Section) (n : ℕ) → n < 2 ^ 32 → IsWithin (count_range numbers section ∷ []) n → line_read numbers (Counted section) (fields (Count section n)) ≡ Ok n
+count_back : (numbers : Numbers) (section : Section) (n : ℕ) → n < 2 ^ 32 → ReadsWithin (count_range numbers section ∷ []) n → line_read numbers (Counted section) (fields (Count section n)) ≡ Ok n
 count_back numbers Units n s h = line_read-counted numbers Units _ ∙ named_back (CountOf Units) 0 (numbers.cores * numbers.budget) n refl s h.0 h.1
 count_back numbers Calls n s h = line_read-counted numbers Calls _ ∙ named_back (CountOf Calls) 0 4294967295 n refl s h.0 h.1
 count_back numbers Traps n s h = line_read-counted numbers Traps _ ∙ named_back (CountOf Traps) 0 4294967295 n refl s h.0 h.1

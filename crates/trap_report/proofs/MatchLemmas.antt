@@ -11,7 +11,7 @@ use Rattle.std.specs.Prelude.{position, is_some}
 use Rattle.std.specs.Option.{option_map}
 use Rattle.std.specs.List.{slice_split, onto_first, position_or_len}
 use Rattle.trap_report.specs.Forms.{has_form, is_in_range, has_shape, are_in_range, first_number, number}
-use Rattle.trap_report.specs.Matching.{Matching, form_read, IsWithin, greatest, number_or, parts_left}
+use Rattle.trap_report.specs.Matching.{Matching, form_read, ReadsWithin, greatest, number_or, parts_left}
 use Rattle.trap_report.specs.declared.form.Field.{Field}
 use Rattle.trap_report.specs.declared.form.Field.TheVariants.{Exactly, Meeting, Verdict, Decimal, Hex}
 use Rattle.trap_report.specs.declared.saved.ReportKind.TheVariants.{Number}
@@ -74,7 +74,7 @@ and_right : (a b : Bool) → (a && b) ≡ true → b ≡ true
 and_right true b h = h
 and_right false b h = cc
 
-within : (form : List Field) (fields : List (List ℕ)) → has_shape form fields ≡ true → are_in_range form fields ≡ true → (first_number form fields ≤ greatest form) × IsWithin form (first_number form fields)
+within : (form : List Field) (fields : List (List ℕ)) → has_shape form fields ≡ true → are_in_range form fields ≡ true → (first_number form fields ≤ greatest form) × ReadsWithin form (first_number form fields)
 within [] fields s r = (omega arith, tt)
 within (field ∷ form) [] s r = let no : ⊥ = cc in absurd no
 within (Decimal low high ∷ form) (text ∷ fields) s r =
@@ -87,12 +87,12 @@ within (Meeting ∷ form) (text ∷ fields) s r = within form fields (and_right 
 within (Verdict ∷ form) (text ∷ fields) s r = within form fields (and_right _ _ s) r
 within (Hex count ∷ form) (text ∷ fields) s r = within form fields (and_right _ _ s) r
 
-pub matched_within : (form : List Field) (fields : List (List ℕ)) (rest : List Field) (left : List (List ℕ)) (good : Bool) (first : Option ℕ) → Matching form fields rest left good first → rest ≡ [] → left ≡ [] → good ≡ true → (unwrap_or first 0 ≤ greatest form) × IsWithin form (unwrap_or first 0)
+pub matched_within : (form : List Field) (fields : List (List ℕ)) (rest : List Field) (left : List (List ℕ)) (good : Bool) (first : Option ℕ) → Matching form fields rest left good first → rest ≡ [] → left ≡ [] → good ≡ true → (unwrap_or first 0 ≤ greatest form) × ReadsWithin form (unwrap_or first 0)
 matched_within form fields rest left good first m r l g =
     let shape : has_shape form fields ≡ true = m.shape ∙ rw (r, l) refl in
     let range : are_in_range form fields ≡ true = m.range ∙ rw r (and_true good) ∙ g in
     let number : first_number form fields ≡ unwrap_or first 0 = m.number ∙ rw r refl in
-    subst (λ (n : ℕ). (n ≤ greatest form) × IsWithin form n) number (within form fields shape range)
+    subst (λ (n : ℕ). (n ≤ greatest form) × ReadsWithin form n) number (within form fields shape range)
 
 -- ---- a text up to a byte
 

@@ -18,7 +18,7 @@ use Rattle.machine.specs.Outcomes.{Summary, summary_of, summaries}
 use Rattle.machine.specs.FinishedRuns.{FinishedRun, IsFinishedRun}
 use Rattle.inline_tracker.specs.Seen.{FinishedSeen, next_core}
 use Rattle.trap_report.specs.Text.{report_of, by_core, end_lines}
-use Rattle.trap_report.specs.Left.{IsTold, IsTakenTo, IsTakenAt, following}
+use Rattle.trap_report.specs.Left.{TellsRun, IsTakenTo, IsTakenAt, following}
 use Rattle.trap_report.proofs.LeftLemmas.{length-ends}
 use Rattle.trap_report.specs.declared.report_line.HeaderLine.{HeaderLine}
 use Rattle.trap_report.specs.declared.report_line.HeaderLine.TheVariants.{Cores, Budget, Limit, Stack, Heap}
@@ -36,7 +36,7 @@ known_core s t [] place core p h = absurd (let no : ⊥ = cc in no)
 known_core s t (first ∷ order) zero core p h = let same : first ≡ core = cc in rw (← same) p.0
 known_core s t (first ∷ order) (suc place) core p h = known_core s (step s t first) order place core p.2 h
 
-pub told : (s : Setup) (f : FinishedRun) → IsFinishedRun s f → IsTold s f
+pub told : (s : Setup) (f : FinishedRun) → IsFinishedRun s f → TellsRun s f
 unfolding report_of
 told s f h =
     let run = h.run in
@@ -62,7 +62,7 @@ get_or-same zero i x = refl
 get_or-same (suc n) zero x = refl
 get_or-same (suc n) (suc i) x = get_or-same n i x
 
-pub none_taken : (s : Setup) (f : FinishedSeen) (taken : List ℕ) (n : ℕ) → n ≡ 256 → taken ≡ replicate n 0 → f.given ≡ 0 → IsTold s f.run → IsTakenTo s f 0 taken
+pub none_taken : (s : Setup) (f : FinishedSeen) (taken : List ℕ) (n : ℕ) → n ≡ 256 → taken ≡ replicate n 0 → f.given ≡ 0 → TellsRun s f.run → IsTakenTo s f 0 taken
 none_taken s f taken n size zeros front t = record {
   given = front;
   size = ap length zeros ∙ (let none : ℕ = 0 in length-replicate n none) ∙ size;
@@ -99,7 +99,7 @@ part_of-same core entry units = rw (eq-eqb core core refl) refl
 part_of-other : (other core : ℕ) (entry : Entry) (units : List Marked) → (core ≡ other → ⊥) → part_of other ((core, entry) ∷ units) ≡ part_of other units
 part_of-other other core entry units h = rw (ne_eqb core other h) refl
 
-module _ (s : Setup) (f : FinishedSeen) (place : ℕ) (taken : List ℕ) (core : ℕ) (t : IsTold s f.run) (k : IsTakenTo s f place taken) (at : slice_get f.run.order place ≡ Some core) where
+module _ (s : Setup) (f : FinishedSeen) (place : ℕ) (taken : List ℕ) (core : ℕ) (t : TellsRun s f.run) (k : IsTakenTo s f place taken) (at : slice_get f.run.order place ≡ Some core) where
   abbrev units : List Marked
   units = (report_of s f.run.order).units
 

@@ -87,8 +87,8 @@ pub record Tells (setup : Setup) (finished : FinishedRun) (report : Report) : Ty
   pub known : (place core : ℕ) → slice_get finished.order place ≡ Some core → core < length finished.logs
   pub parts : (core : ℕ) → core < length finished.logs → log_of finished.logs core ≡ part_of core report.units
 
-abbrev pub IsTold : Setup → FinishedRun → Type 0
-IsTold setup finished = Tells setup finished (report_of setup finished.order)
+abbrev pub TellsRun : Setup → FinishedRun → Type 0
+TellsRun setup finished = Tells setup finished (report_of setup finished.order)
 
 -- the order was given to this place, and the entries that are left of each log are its core's part of the units from there on
 pub record IsTakenTo (setup : Setup) (finished : FinishedSeen) (place : ℕ) (taken : List ℕ) : Type 0 where

@@ -19,10 +19,10 @@ greatest (Decimal low high ∷ form) = high
 greatest (field ∷ form) = greatest form
 
 -- a number in the range of the first decimal of a form
-abbrev pub IsWithin : List Field → ℕ → Type 0
-IsWithin [] n = Unit {0}
-IsWithin (Decimal low high ∷ form) n = (low ≤ n) × (n ≤ high)
-IsWithin (field ∷ form) n = IsWithin form n
+abbrev pub ReadsWithin : List Field → ℕ → Type 0
+ReadsWithin [] n = Unit {0}
+ReadsWithin (Decimal low high ∷ form) n = (low ≤ n) × (n ≤ high)
+ReadsWithin (field ∷ form) n = ReadsWithin form n
 
 -- the parts of what is left of a text that is cut at a byte
 abbrev pub parts_left : ℕ → Option (List ℕ) → List (List ℕ)

@@ -1,6 +1,6 @@
 //! A walk along the lines of a report.
 ghost use Rattle.std.specs.Prelude.{◌≡◌, ◌+◌, ◌^◌, ◌<◌, ◌≤◌, ◌∷◌, length, replicate};
-ghost use Rattle.trap_report.specs.Left.{GivesLine, IsTakenAt, IsTakenTo, IsTold, following, left};
+ghost use Rattle.trap_report.specs.Left.{GivesLine, IsTakenAt, IsTakenTo, TellsRun, following, left};
 
 use crate::found::{
     core_count, count_notes, count_traps, header_number, next_note, next_trap, take_entry,
@@ -31,7 +31,7 @@ impl Cursor {
 
     /// The next line, or `None` where the report is at its end.
     pub fn next_line(&mut self, setup: &Setup, finished: &mut Finished) -> Option<ReportLine>
-        requires told { IsTold setup.now finished.old.run }
+        requires told { TellsRun setup.now finished.old.run }
         requires taken { IsTakenAt setup.now finished.old self.old.place self.old.taken }
         ensures line { GivesLine (left setup.now finished.old.run self.old.place)
             (left setup.now finished.old.run self.new.place) result }
@@ -60,7 +60,7 @@ impl Cursor {
     }
 
     fn header_line(&mut self, next: HeaderLine, setup: &Setup, finished: &Finished) -> ReportLine
-        requires told { IsTold setup.now finished.now.run }
+        requires told { TellsRun setup.now finished.now.run }
         requires taken { IsTakenTo setup.now finished.now 0 self.old.taken }
         ensures line { left setup.now finished.now.run (LinePlace.AtHeader next)
             ≡ result ∷ left setup.now finished.now.run self.new.place }
@@ -71,7 +71,7 @@ impl Cursor {
     }
 
     fn units_line(&mut self, setup: &Setup, finished: &Finished) -> ReportLine
-        requires told { IsTold setup.now finished.now.run }
+        requires told { TellsRun setup.now finished.now.run }
         requires taken { IsTakenTo setup.now finished.now 0 self.old.taken }
         ensures line { left setup.now finished.now.run LinePlace.AtUnits
             ≡ result ∷ left setup.now finished.now.run self.new.place }
@@ -82,7 +82,7 @@ impl Cursor {
     }
 
     fn unit_line(&mut self, place: usize, setup: &Setup, finished: &mut Finished) -> ReportLine
-        requires told { IsTold setup.now finished.old.run }
+        requires told { TellsRun setup.now finished.old.run }
         requires taken { IsTakenTo setup.now finished.old place self.old.taken }
         ensures line { left setup.now finished.old.run (LinePlace.AtUnit place)
             ≡ result ∷ left setup.now finished.old.run self.new.place }
@@ -103,7 +103,7 @@ impl Cursor {
     }
 
     fn note_line(&mut self, core: u8, note: usize, setup: &Setup, finished: &Finished) -> ReportLine
-        requires told { IsTold setup.now finished.now.run }
+        requires told { TellsRun setup.now finished.now.run }
         ensures line { left setup.now finished.now.run (LinePlace.AtNote core note)
             ≡ result ∷ left setup.now finished.now.run self.new.place }
         ensures taken { IsTakenAt setup.now finished.now self.new.place self.new.taken }
@@ -125,7 +125,7 @@ impl Cursor {
     }
 
     fn trap_line(&mut self, core: u8, setup: &Setup, finished: &Finished) -> ReportLine
-        requires told { IsTold setup.now finished.now.run }
+        requires told { TellsRun setup.now finished.now.run }
         ensures line { left setup.now finished.now.run (LinePlace.AtTrap core)
             ≡ result ∷ left setup.now finished.now.run self.new.place }
         ensures taken { IsTakenAt setup.now finished.now self.new.place self.new.taken }
@@ -144,7 +144,7 @@ impl Cursor {
     }
 
     fn end_line(&mut self, core: u8, setup: &Setup, finished: &Finished) -> ReportLine
-        requires told { IsTold setup.now finished.now.run }
+        requires told { TellsRun setup.now finished.now.run }
         ensures line { left setup.now finished.now.run (LinePlace.AtEnd core)
             ≡ result ∷ left setup.now finished.now.run self.new.place }
         ensures taken { IsTakenAt setup.now finished.now self.new.place self.new.taken }

@@ -1,7 +1,7 @@
 //! The header of a report that is read.
 ghost use Rattle.std.specs.Prelude.{◌≡◌, ◌+◌, ◌^◌, ◌<◌, ◌≤◌, [], ◌∷◌, ◌++◌, List, IfOk};
 ghost use Rattle.trap_report.specs.Reading.{FirstLine, LineKind, Numbered, Reported, header_kinds, header_range};
-ghost use Rattle.trap_report.specs.Matching.{IsWithin};
+ghost use Rattle.trap_report.specs.Matching.{ReadsWithin};
 ghost use Rattle.trap_report.specs.Saved.{HasRanges};
 ghost use Rattle.trap_report.specs.Walking.{Goes, TakesLine, numbers_in, reading};
 
@@ -54,7 +54,7 @@ pub fn read_header(lines: &mut Lines<'_>) -> Result<Header, ReportFault>
 fn read_number(lines: &mut Lines<'_>, name: HeaderLine) -> Result<u32, ReportFault>
     ensures takes { (told : Reported) (kinds : List LineKind)
         → TakesLine (Numbered name) told kinds lines.old.rest.now lines.old.taken lines.new.rest.now lines.new.taken result }
-    ensures within { IfOk result (IsWithin (header_range name ∷ [])) }
+    ensures within { IfOk result (ReadsWithin (header_range name ∷ [])) }
 {
     let line = lines.take()?;
     lines.told(header_number(line, name))

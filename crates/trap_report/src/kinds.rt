@@ -3,7 +3,7 @@ ghost use Rattle.std.specs.Prelude.{◌≡◌, ◌+◌, ◌-◌, ◌^◌, ◌<�
 ghost use Rattle.trap_report.specs.Text.{Numbers};
 ghost use Rattle.trap_report.specs.Forms.{forms_read};
 ghost use Rattle.trap_report.specs.Reading.{LineOf, Numbered, Counted, FirstLine, LastLine, count_range, fields_of, header_range, line_read, section_forms};
-ghost use Rattle.trap_report.specs.Matching.{IsWithin, greatest};
+ghost use Rattle.trap_report.specs.Matching.{ReadsWithin, greatest};
 ghost use Rattle.trap_report.specs.declared.form.Field.{Field};
 ghost use Rattle.trap_report.specs.declared.form.Field.TheVariants.{Decimal};
 ghost use Rattle.trap_report.specs.declared.report_line.Section.TheVariants.{Calls, Ends, Traps, Units};
@@ -36,7 +36,7 @@ pub fn first_line(line: &[u8]) -> Result<u32, ReportKind>
 pub fn header_number(line: &[u8], name: HeaderLine) -> Result<u32, ReportKind>
     ensures read { (numbers : Numbers)
         → result ≡ line_read numbers (Numbered name) (fields_of line.now) }
-    ensures within { IfOk result (IsWithin (header_range name ∷ [])) }
+    ensures within { IfOk result (ReadsWithin (header_range name ∷ [])) }
 {
     read_or(
         line,
@@ -171,7 +171,7 @@ fn read_or(line: &[u8], form: &[Field], other: Result<u32, ReportKind>) -> Resul
     requires { greatest form.now < 2 ^ 32 }
     ensures read { (forms : List (List Field)) → other ≡ forms_read forms (fields_of line.now)
         → result ≡ forms_read (form.now ∷ forms) (fields_of line.now) }
-    ensures within { IfOk other (IsWithin form.now) → IfOk result (IsWithin form.now) }
+    ensures within { IfOk other (ReadsWithin form.now) → IfOk result (ReadsWithin form.now) }
 {
     match form_read(line, form) {
         Some(read) => narrowed(read),

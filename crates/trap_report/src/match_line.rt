@@ -3,7 +3,7 @@ ghost use Rattle.std.specs.Prelude.{◌≡◌, ◌+◌, ◌<◌, ◌≤◌, ◌�
 ghost use Rattle.std.specs.List.{slice_split};
 ghost use Rattle.std.specs.Option.{option_map};
 ghost use Rattle.trap_report.specs.Forms.{has_form, is_in_range};
-ghost use Rattle.trap_report.specs.Matching.{IsWithin, form_read, greatest, number_or, parts_left};
+ghost use Rattle.trap_report.specs.Matching.{ReadsWithin, form_read, greatest, number_or, parts_left};
 ghost use Rattle.trap_report.specs.Reading.{fields_of};
 
 use crate::form::{Field, has_form, is_in_range, number};
@@ -33,7 +33,7 @@ fn place_of(byte: u8, text: &[u8]) -> Option<usize>
 pub fn form_read(line: &[u8], form: &[Field]) -> Option<Result<u64, ReportKind>>
     ensures read { result ≡ form_read form.now (fields_of line.now) }
     ensures small { IfSome result (λ read. IfOk read (λ number. number ≤ greatest form.now)) }
-    ensures within { IfSome result (λ read. IfOk read (IsWithin form.now)) }
+    ensures within { IfSome result (λ read. IfOk read (ReadsWithin form.now)) }
 {
     let mut rest = Some(line);
     let mut good = true;

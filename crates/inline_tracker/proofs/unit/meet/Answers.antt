@@ -4,7 +4,7 @@ use Rattle.tag_registers.specs.Files.{tags_in}
 use Rattle.tag_registers.specs.declared.ask.TagAsk.TheVariants.{Answer as Answers}
 use Rattle.syscall_drain.specs.declared.ask.Answer.TheVariants.{Reply as Replied}
 use Rattle.syscall_drain.specs.declared.ask.CoreAsk.TheVariants.{Meet as Meets}
-use Rattle.syscall_drain.specs.Units.{Fits, next_ask}
+use Rattle.syscall_drain.specs.Units.{FitsAsk, next_ask}
 use Rattle.syscall_drain.specs.Seen.{local_of, budget_of}
 use Rattle.syscall_drain.proofs.Units.{fits_running}
 use Rattle.inline_tracker.specs.Seats.{local_in, core_in, notes_held}
@@ -29,10 +29,10 @@ close-requires c =
     let s = c.args.setup.now in
     let old = c.args.seat.now in
     let asks = asks_of s.program (local_in old) c.args.unit (Meets c.args.item) c.requires.unit.is c.requires.asked in
-    let fits : Fits (next_ask s.program (local_in old)) (Replied c.in-Answer.reply) = rw asks tt in
+    let fits : FitsAsk (next_ask s.program (local_in old)) (Replied c.in-Answer.reply) = rw asks tt in
     let running = fits_running s.program (local_in old) (Replied c.in-Answer.reply) fits in
-    let same = c.spend.ensures.same in
-    open_more _ _ _ _ _ _ (c.spend.ensures.spent.budget ∙ c.requires.seated.budget_is) (same.notes ∙ c.keep_note.ensures) same.outcome
+    let same = c.take_answer.ensures.same in
+    open_more _ _ _ _ _ _ (c.take_answer.ensures.spent.budget ∙ c.requires.seated.budget_is) (same.notes ∙ c.keep_note.ensures) same.outcome
     (noted_open _ _ _ c.note_of-note.result (opens _ _ _ _ _ _ running c.requires.seated.holds))
 
 pub returns-clause-core : goal.returns-clause-core
@@ -44,20 +44,20 @@ returns-clause-core c =
     let met = is_met s.policy (tags_in old.tags) s.program (local_in old) c.args.item asks in
     let told : Answers reply ≡ Answers (reply_of (tags_after s.policy (tags_in old.tags) c.args.item 0)) = (rw c.policy.ensures at c.in-Answer.ensures.ask) ∙ met.asks in
     let reply_is : reply ≡ reply_of (tags_after s.policy (tags_in old.tags) c.args.item 0) = cc in
-    let step = ap local_of c.close.ensures.same.state ∙ rw (c.guest.ensures.guest, c.requires.seated.budget_is) at c.spend.ensures.spent.step in
-    let tags = ap tags_in (c.close.ensures.same.tags ∙ c.spend.ensures.same.tags) ∙ (rw c.policy.ensures at c.consume.ensures.tags) ∙ met.after in
-    let fits : Fits (next_ask s.program (local_in old)) (Replied reply) = rw asks tt in
+    let step = ap local_of c.close.ensures.same.state ∙ rw (c.guest.ensures.guest, c.requires.seated.budget_is) at c.take_answer.ensures.spent.step in
+    let tags = ap tags_in (c.close.ensures.same.tags ∙ c.take_answer.ensures.same.tags) ∙ (rw c.policy.ensures at c.consume.ensures.tags) ∙ met.after in
+    let fits : FitsAsk (next_ask s.program (local_in old)) (Replied reply) = rw asks tt in
     let running = fits_running s.program (local_in old) (Replied reply) fits in
-    let notes = c.close.ensures.same.notes ∙ rw (c.spend.ensures.same.notes, c.spend.ensures.same.outcome, c.keep_note.ensures) (noted_held s.budget old.notes old.outcome c.note_of-note.result (opens _ _ _ _ _ _ running c.requires.seated.holds))
+    let notes = c.close.ensures.same.notes ∙ rw (c.take_answer.ensures.same.notes, c.take_answer.ensures.same.outcome, c.keep_note.ensures) (noted_held s.budget old.notes old.outcome c.note_of-note.result (opens _ _ _ _ _ _ running c.requires.seated.holds))
     ∙ ap (λ more. notes_held old.notes old.outcome ++ more) c.note_of-note.ensures in
     meeting_core s (core_in old) c.args.item reply _ _ _ asks reply_is step tags notes
 
 pub returns-clause-seated : goal.returns-clause-seated
 returns-clause-seated c =
     let same = c.close.ensures.same in
-    let spent = c.spend.ensures.spent in
+    let spent = c.take_answer.ensures.spent in
     seated_more c.guest.result.now c.args.setup.now.budget c.args.seat.now c.close.new.seat (Replied c.in-Answer.reply) (record { touch = None }) c.requires.seated c.requires.sound
-    (same.log ∙ c.spend.ensures.same.log)
+    (same.log ∙ c.take_answer.ensures.same.log)
     (ap local_of same.state ∙ spent.step)
     (ap budget_of same.state ∙ spent.budget)
     c.close.ensures.holds

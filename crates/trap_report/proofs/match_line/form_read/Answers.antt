@@ -1,7 +1,7 @@
 use Rattle.std.proofs.Common.{ℕ, ◌≤◌, get_or, subst, sym, ap, ◌∙◌, add-one, drop-cons}
 use Rattle.std.proofs.lemmas.List.{drop_all}
 use Rattle.std.specs.Option.{option_map}
-use Rattle.trap_report.specs.Matching.{IsWithin, greatest, parts_left}
+use Rattle.trap_report.specs.Matching.{ReadsWithin, greatest, parts_left}
 use Rattle.trap_report.specs.declared.form.Field.TheVariants.{Meeting}
 use Rattle.trap_report.proofs.MatchLemmas.{next_matched, other_form, too_few, some_left, none_left, all_good, not_good, matched_within, left_now}
 use Rattle.trap_report.proofs.match_line.form_read.Goals as goal
@@ -39,7 +39,7 @@ returns-then-good-clause-small c =
 pub returns-then-good-clause-within : goal.returns-then-good-clause-within
 returns-then-good-clause-within c =
     let within = matched_within _ _ _ _ _ _ c.loop-field.invariant (drop_all c.loop-field.field-index c.args.form.now c.loop-field-test.false) (none_left c.loop-field.rest (λ rest. rest.now) (sym c.is_some.ensures ∙ c.if-is_some.false)) c.if-good.true in
-    subst (λ (n : ℕ). IsWithin c.args.form.now n) (sym c.unwrap_or.ensures) within.1
+    subst (λ (n : ℕ). ReadsWithin c.args.form.now n) (sym c.unwrap_or.ensures) within.1
 
 pub returns-else-good-clause-read : goal.returns-else-good-clause-read
 returns-else-good-clause-read c =

@@ -3,7 +3,7 @@ use Rattle.syscall_drain.proofs.Units.{running_asks}
 use Rattle.inline_tracker.specs.Standing.{core_along}
 use Rattle.inline_tracker.proofs.Seating.{asks_of}
 use Rattle.inline_tracker.proofs.Running.{at_run}
-use Rattle.inline_tracker.proofs.advance.spend.Goals as goal
+use Rattle.inline_tracker.proofs.advance.run_unit.Goals as goal
 
 pub unreachable-requires : goal.unreachable-requires
 unreachable-requires c =
