@@ -20,8 +20,8 @@ and_both false b p q = p
 own : IsNumeralModel (λ ds. list_all is_digit ds ≡ true) (number_after 0)
 own = numerals_by_fold _ (search rules) number_after (search rules)
 
-pub number-decimal : (n : ℕ) → n < 2 ^ 64 → number (decimal n) ≡ n
-number-decimal n h = digits_value-decimal own n h
+pub number_decimal : (n : ℕ) → n < 2 ^ 64 → number (decimal n) ≡ n
+number_decimal n h = digits_value-decimal own n h
 
 pub decimal_form : (low high n : ℕ) → n < 2 ^ 32 → has_form (Decimal low high) (decimal n) ≡ true
 decimal_form low high n h =
@@ -38,17 +38,17 @@ plain (suc n) h = first_above (decimal (suc n)) (first_decimal (suc n) (omega ar
 
 pub decimal_in_range : (low high n : ℕ) → n < 2 ^ 32 → low ≤ n → n ≤ high → is_in_range (Decimal low high) (decimal n) ≡ true
 decimal_in_range low high n h l m =
-    let is : number (decimal n) ≡ n = number-decimal n (omega arith) in
+    let is : number (decimal n) ≡ n = number_decimal n (omega arith) in
     let least : nat_le low (number (decimal n)) ≡ true = rw is (grind (arith, nat_tests)) in
     let most : nat_le (number (decimal n)) high ≡ true = rw is (grind (arith, nat_tests)) in
     and_both (not (has_leading_zero (decimal n))) _ (ap not (plain n (omega arith))) (and_both _ _ least most)
 
 -- ---- hexadecimal
 
-length-hex : (count n : ℕ) → length (hex count n) ≡ count
+length_hex : (count n : ℕ) → length (hex count n) ≡ count
 unfolding hex
-length-hex zero n = refl
-length-hex (suc count) n = ap suc (length-hex count n)
+length_hex zero n = refl
+length_hex (suc count) n = ap suc (length_hex count n)
 
 hex_digit_is : (d : ℕ) → d < 16 → is_hex_digit (hex_digit d) ≡ true
 hex_digit_is d h = grind (arith, nat_tests)
@@ -59,7 +59,7 @@ hex_digits zero n = refl
 hex_digits (suc count) n = and_both (is_hex_digit (hex_digit (n / 16 ^ count % 16))) (list_all is_hex_digit (hex count n)) (hex_digit_is (n / 16 ^ count % 16) (omega arith)) (hex_digits count n)
 
 pub hex_form : (count n : ℕ) → has_form (Hex count) (hex count n) ≡ true
-hex_form count n = and_both _ _ (rw (length-hex count n) (eq-eqb count count refl)) (hex_digits count n)
+hex_form count n = and_both _ _ (rw (length_hex count n) (eq-eqb count count refl)) (hex_digits count n)
 
 -- ---- a line of a form
 

@@ -9,29 +9,29 @@ use Rattle.trap_report.specs.Fields.{line_text}
 use Rattle.trap_report.specs.Difference.{DifferFirstAt}
 use Rattle.trap_report.specs.declared.report_line.ReportLine.{ReportLine}
 
-slice_get-front : (xs ys : List ℕ) (place : ℕ) → place < length xs → slice_get (xs ++ ys) place ≡ slice_get xs place
-slice_get-front [] ys place h = absurd (omega arith)
-slice_get-front (x ∷ xs) ys zero h = refl
-slice_get-front (x ∷ xs) ys (suc place) h = slice_get-front xs ys place (omega arith)
+slice_get_front : (xs ys : List ℕ) (place : ℕ) → place < length xs → slice_get (xs ++ ys) place ≡ slice_get xs place
+slice_get_front [] ys place h = absurd (omega arith)
+slice_get_front (x ∷ xs) ys zero h = refl
+slice_get_front (x ∷ xs) ys (suc place) h = slice_get_front xs ys place (omega arith)
 
-slice_get-behind : (xs ys : List ℕ) (place : ℕ) → slice_get (xs ++ ys) (length xs + place) ≡ slice_get ys place
-slice_get-behind [] ys place = let none : 0 + place ≡ place = omega arith in ap (slice_get ys) none
-slice_get-behind (x ∷ xs) ys place =
+slice_get_behind : (xs ys : List ℕ) (place : ℕ) → slice_get (xs ++ ys) (length xs + place) ≡ slice_get ys place
+slice_get_behind [] ys place = let none : 0 + place ≡ place = omega arith in ap (slice_get ys) none
+slice_get_behind (x ∷ xs) ys place =
     let next : suc (length xs) + place ≡ suc (length xs + place) = omega arith in
-    ap (slice_get (x ∷ (xs ++ ys))) next ∙ slice_get-behind xs ys place
+    ap (slice_get (x ∷ (xs ++ ys))) next ∙ slice_get_behind xs ys place
 
 -- behind the same front
 differ_behind : (front text other : List ℕ) (place : ℕ) → DifferFirstAt place text other → DifferFirstAt (length front + place) (front ++ text) (front ++ other)
 differ_behind front text other place d = record {
   same = take-append-add front text place ∙ ap (λ xs. front ++ xs) d.same ∙ sym (take-append-add front other place);
-  differ = λ e. d.differ (sym (slice_get-behind front text place) ∙ e ∙ slice_get-behind front other place);
+  differ = λ e. d.differ (sym (slice_get_behind front text place) ∙ e ∙ slice_get_behind front other place);
 }
 
 -- within a piece, whatever follows the piece
 differ_within : (piece rest other : List ℕ) (place : ℕ) → place < length piece → DifferFirstAt place piece other → DifferFirstAt place (piece ++ rest) other
 differ_within piece rest other place h d = record {
   same = take-append-le place piece rest (omega arith) ∙ d.same;
-  differ = λ e. d.differ (sym (slice_get-front piece rest place h) ∙ e);
+  differ = λ e. d.differ (sym (slice_get_front piece rest place h) ∙ e);
 }
 
 pub differ_on : (at place : ℕ) (text bytes piece : List ℕ) (lines next : List ReportLine) (line : ReportLine) → at ≤ length bytes

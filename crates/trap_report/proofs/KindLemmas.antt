@@ -48,25 +48,25 @@ unfolding form_read line_read
 not_first numbers fields h = none_of (has_shape first_form fields) _ (Ok 0) (Err Version) h
 
 -- each other line is one of its forms
-pub line_read-numbered : (numbers : Numbers) (name : HeaderLine) (fields : List (List ℕ)) → line_read numbers (Numbered name) fields ≡ forms_read (forms numbers (Numbered name)) fields
+pub line_read_numbered : (numbers : Numbers) (name : HeaderLine) (fields : List (List ℕ)) → line_read numbers (Numbered name) fields ≡ forms_read (forms numbers (Numbered name)) fields
 unfolding line_read
-line_read-numbered numbers name fields = refl
+line_read_numbered numbers name fields = refl
 
-pub line_read-counted : (numbers : Numbers) (section : Section) (fields : List (List ℕ)) → line_read numbers (Counted section) fields ≡ forms_read (forms numbers (Counted section)) fields
+pub line_read_counted : (numbers : Numbers) (section : Section) (fields : List (List ℕ)) → line_read numbers (Counted section) fields ≡ forms_read (forms numbers (Counted section)) fields
 unfolding line_read
-line_read-counted numbers section fields = refl
+line_read_counted numbers section fields = refl
 
-pub line_read-of : (numbers : Numbers) (section : Section) (fields : List (List ℕ)) → line_read numbers (LineOf section) fields ≡ forms_read (forms numbers (LineOf section)) fields
+pub line_read_of : (numbers : Numbers) (section : Section) (fields : List (List ℕ)) → line_read numbers (LineOf section) fields ≡ forms_read (forms numbers (LineOf section)) fields
 unfolding line_read
-line_read-of numbers section fields = refl
+line_read_of numbers section fields = refl
 
-pub line_read-last : (numbers : Numbers) (fields : List (List ℕ)) → line_read numbers LastLine fields ≡ forms_read (forms numbers LastLine) fields
+pub line_read_last : (numbers : Numbers) (fields : List (List ℕ)) → line_read numbers LastLine fields ≡ forms_read (forms numbers LastLine) fields
 unfolding line_read
-line_read-last numbers fields = refl
+line_read_last numbers fields = refl
 
 pub core_read : (numbers : Numbers) (section named : Section) (last : ℕ) (fields : List (List ℕ)) (read : Result ℕ ReportKind) → section ≡ named → numbers.cores - 1 ≡ last
     → read ≡ forms_read (section_forms (Decimal 0 last) named) fields → read ≡ line_read numbers (LineOf section) fields
 core_read numbers section named last fields read s l h =
     h ∙ ap (λ (of : Section). forms_read (section_forms (Decimal 0 last) of) fields) (sym s)
     ∙ ap (λ (most : ℕ). forms_read (section_forms (Decimal 0 most) section) fields) (sym l)
-    ∙ sym (line_read-of numbers section fields)
+    ∙ sym (line_read_of numbers section fields)

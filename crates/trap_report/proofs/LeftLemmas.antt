@@ -36,38 +36,38 @@ drop_missing (y ∷ ys) (suc i) h = drop_missing ys i h
 
 -- ---- how many lines a section has
 
-pub length-notes : (core : ℕ) (cores : List Summary) → length (by_core note_lines core cores) ≡ sum_by (λ core. length core.notes) cores
-length-notes core [] = refl
-length-notes core (summary ∷ cores) =
+pub length_notes : (core : ℕ) (cores : List Summary) → length (by_core note_lines core cores) ≡ sum_by (λ core. length core.notes) cores
+length_notes core [] = refl
+length_notes core (summary ∷ cores) =
     length-append (note_lines core summary) (by_core note_lines (suc core) cores)
     ∙ ap (λ n. n + length (by_core note_lines (suc core) cores)) (length-map summary.notes (NoteOf core))
-    ∙ ap (λ n. length summary.notes + n) (length-notes (suc core) cores)
+    ∙ ap (λ n. length summary.notes + n) (length_notes (suc core) cores)
     ∙ sym (sum_by-cons (λ (core : Summary). length core.notes) summary cores)
 
-length-trap : (core : ℕ) (trap : Option Trap) (summary : Summary) → summary.trap ≡ trap → length (trap_lines core summary) ≡ cond (is_some summary.trap) 1 0
-length-trap core None summary h = rw h refl
-length-trap core (Some trap) summary h = rw h refl
+length_trap : (core : ℕ) (trap : Option Trap) (summary : Summary) → summary.trap ≡ trap → length (trap_lines core summary) ≡ cond (is_some summary.trap) 1 0
+length_trap core None summary h = rw h refl
+length_trap core (Some trap) summary h = rw h refl
 
-pub length-traps : (core : ℕ) (cores : List Summary) → length (by_core trap_lines core cores) ≡ count_by (λ core. is_some core.trap) cores
-length-traps core [] = refl
-length-traps core (summary ∷ cores) =
+pub length_traps : (core : ℕ) (cores : List Summary) → length (by_core trap_lines core cores) ≡ count_by (λ core. is_some core.trap) cores
+length_traps core [] = refl
+length_traps core (summary ∷ cores) =
     length-append (trap_lines core summary) (by_core trap_lines (suc core) cores)
-    ∙ ap (λ n. n + length (by_core trap_lines (suc core) cores)) (length-trap core summary.trap summary refl)
-    ∙ ap (λ n. cond (is_some summary.trap) 1 0 + n) (length-traps (suc core) cores)
+    ∙ ap (λ n. n + length (by_core trap_lines (suc core) cores)) (length_trap core summary.trap summary refl)
+    ∙ ap (λ n. cond (is_some summary.trap) 1 0 + n) (length_traps (suc core) cores)
     ∙ sym (sum_by-cons (λ (core : Summary). cond (is_some core.trap) 1 0) summary cores)
 
-length-end : (core : ℕ) (ending : Option End) → IsSome ending → length (line_if (EndOf core) ending) ≡ 1
-length-end core None h = cc
-length-end core (Some end) h = refl
+length_end : (core : ℕ) (ending : Option End) → IsSome ending → length (line_if (EndOf core) ending) ≡ 1
+length_end core None h = cc
+length_end core (Some end) h = refl
 
 -- where each core has an end
-pub length-ends : (core : ℕ) (summary_of : ℕ → Summary) (first count : ℕ) → ((c : ℕ) → c < first + count → IsSome (summary_of c).ending) → length (by_core end_lines core (map summary_of (range_with_len first count))) ≡ count
-length-ends core summary_of first zero h = refl
-length-ends core summary_of first (suc count) h =
+pub length_ends : (core : ℕ) (summary_of : ℕ → Summary) (first count : ℕ) → ((c : ℕ) → c < first + count → IsSome (summary_of c).ending) → length (by_core end_lines core (map summary_of (range_with_len first count))) ≡ count
+length_ends core summary_of first zero h = refl
+length_ends core summary_of first (suc count) h =
     let rest = by_core end_lines (suc core) (map summary_of (range_with_len (first + 1) count)) in
     length-append (end_lines core (summary_of first)) rest
-    ∙ ap (λ n. n + length rest) (length-end core (summary_of first).ending (h first (omega arith)))
-    ∙ ap (λ n. 1 + n) (length-ends (suc core) summary_of (first + 1) count (λ c k. h c (omega arith)))
+    ∙ ap (λ n. n + length rest) (length_end core (summary_of first).ending (h first (omega arith)))
+    ∙ ap (λ n. 1 + n) (length_ends (suc core) summary_of (first + 1) count (λ c k. h c (omega arith)))
     ∙ (let last : 1 + count ≡ suc count = omega arith in last)
 
 -- ---- the next note and the next trap
@@ -125,7 +125,7 @@ unit_next report place unit e = rw e refl
 
 pub units_told : (report : Report) (place : ℕ) → drop place report.units ≡ [] → lines_from report (AtUnit place) ≡ Count Calls (sum_by (λ core. length core.notes) report.cores) ∷ lines_from report (AtNote 0 0)
 unfolding lines_from
-units_told report place h = rw (h, ← length-notes 0 report.cores, ← from_first 0 report.cores) refl
+units_told report place h = rw (h, ← length_notes 0 report.cores, ← from_first 0 report.cores) refl
 
 pub note_next : (report : Report) (cores : List Summary) (core place owner found : ℕ) (note : CallNote) → report.cores ≡ cores → notes_from place core (drop core cores) ≡ NoteOf owner note ∷ notes_from found owner (drop owner cores) → lines_from report (AtNote core place) ≡ NoteOf owner note ∷ lines_from report (AtNote owner found)
 unfolding lines_from
@@ -133,7 +133,7 @@ note_next report cores core place owner found note e h = rw (e, h) refl
 
 pub notes_told : (report : Report) (cores : List Summary) (core place : ℕ) → report.cores ≡ cores → notes_from place core (drop core cores) ≡ [] → lines_from report (AtNote core place) ≡ Count Traps (count_by (λ core. is_some core.trap) report.cores) ∷ lines_from report (AtTrap 0)
 unfolding lines_from
-notes_told report cores core place e h = rw (e, h, ← length-traps 0 cores) refl
+notes_told report cores core place e h = rw (e, h, ← length_traps 0 cores) refl
 
 pub trap_next : (report : Report) (cores : List Summary) (core owner : ℕ) (trap : Trap) → report.cores ≡ cores → by_core trap_lines core (drop core cores) ≡ TrapOf owner trap ∷ by_core trap_lines (owner + 1) (drop (owner + 1) cores) → lines_from report (AtTrap core) ≡ TrapOf owner trap ∷ lines_from report (AtTrap (owner + 1))
 unfolding lines_from
@@ -159,6 +159,6 @@ pub at_version : (report : Report) (old new : LinePlace) (line : ReportLine) →
 at_version report old new line o n l = rw (o, n, l) (version_next report)
 
 -- at the first line the whole text is left
-pub text-lines : (s : Setup) (order : List ℕ) → text s order ≡ flat_map line_text (lines_from (report_of s order) AtVersion)
+pub text_lines : (s : Setup) (order : List ℕ) → text s order ≡ flat_map line_text (lines_from (report_of s order) AtVersion)
 unfolding text lines_from
-text-lines s order = refl
+text_lines s order = refl

@@ -29,8 +29,8 @@ use Rattle.trap_report.specs.declared.report_line.Section.{Section}
 use Rattle.trap_report.specs.declared.report_line.Section.TheVariants.{Units, Calls, Traps, Ends}
 use Rattle.trap_report.specs.declared.report_line.ReportLine.{ReportLine}
 use Rattle.trap_report.specs.declared.report_line.ReportLine.TheVariants.{Version, Header, Count, UnitOf, NoteOf, TrapOf, EndOf, Last}
-use Rattle.trap_report.proofs.BackLemmas.{number-decimal, decimal_form, decimal_in_range, hex_form, and_no, Shaped, Ranged, no_field, with_field, no_range, in_range_too, this_form, other_form}
-use Rattle.trap_report.proofs.KindLemmas.{line_read-numbered, line_read-counted, line_read-of, line_read-last}
+use Rattle.trap_report.proofs.BackLemmas.{number_decimal, decimal_form, decimal_in_range, hex_form, and_no, Shaped, Ranged, no_field, with_field, no_range, in_range_too, this_form, other_form}
+use Rattle.trap_report.proofs.KindLemmas.{line_read_numbered, line_read_counted, line_read_of, line_read_last}
 
 -- the kind of a line, and the number that it tells first
 abbrev pub kind_of : ReportLine → LineKind
@@ -72,20 +72,20 @@ named_back word low high n w h l m =
     this_form (Exactly word ∷ Decimal low high ∷ []) [] (word_text word ∷ decimal n ∷ []) n
     (with_field (Exactly word) _ (word_text word) _ w (with_field (Decimal low high) _ (decimal n) _ (decimal_form low high n h) no_field))
     (in_range_too (Exactly word) _ (word_text word) _ refl (in_range_too (Decimal low high) _ (decimal n) _ (decimal_in_range low high n h l m) no_range))
-    (number-decimal n (omega arith))
+    (number_decimal n (omega arith))
 
 header_back : (numbers : Numbers) (name : HeaderLine) (n : ℕ) → ReadsWithin (header_range name ∷ []) n → line_read numbers (Numbered name) (fields (Header name n)) ≡ Ok n
-header_back numbers Cores n h = line_read-numbered numbers Cores _ ∙ named_back (NameOf Cores) 1 8 n refl (omega (arith, h.1)) h.0 h.1
-header_back numbers Budget n h = line_read-numbered numbers Budget _ ∙ named_back (NameOf Budget) 1 1048576 n refl (omega (arith, h.1)) h.0 h.1
-header_back numbers Limit n h = line_read-numbered numbers Limit _ ∙ named_back (NameOf Limit) 1 4294967280 n refl (omega (arith, h.1)) h.0 h.1
-header_back numbers Stack n h = line_read-numbered numbers Stack _ ∙ named_back (NameOf Stack) 1 4096 n refl (omega (arith, h.1)) h.0 h.1
-header_back numbers Heap n h = line_read-numbered numbers Heap _ ∙ named_back (NameOf Heap) 0 4096 n refl (omega (arith, h.1)) h.0 h.1
+header_back numbers Cores n h = line_read_numbered numbers Cores _ ∙ named_back (NameOf Cores) 1 8 n refl (omega (arith, h.1)) h.0 h.1
+header_back numbers Budget n h = line_read_numbered numbers Budget _ ∙ named_back (NameOf Budget) 1 1048576 n refl (omega (arith, h.1)) h.0 h.1
+header_back numbers Limit n h = line_read_numbered numbers Limit _ ∙ named_back (NameOf Limit) 1 4294967280 n refl (omega (arith, h.1)) h.0 h.1
+header_back numbers Stack n h = line_read_numbered numbers Stack _ ∙ named_back (NameOf Stack) 1 4096 n refl (omega (arith, h.1)) h.0 h.1
+header_back numbers Heap n h = line_read_numbered numbers Heap _ ∙ named_back (NameOf Heap) 0 4096 n refl (omega (arith, h.1)) h.0 h.1
 
 count_back : (numbers : Numbers) (section : Section) (n : ℕ) → n < 2 ^ 32 → ReadsWithin (count_range numbers section ∷ []) n → line_read numbers (Counted section) (fields (Count section n)) ≡ Ok n
-count_back numbers Units n s h = line_read-counted numbers Units _ ∙ named_back (CountOf Units) 0 (numbers.cores * numbers.budget) n refl s h.0 h.1
-count_back numbers Calls n s h = line_read-counted numbers Calls _ ∙ named_back (CountOf Calls) 0 4294967295 n refl s h.0 h.1
-count_back numbers Traps n s h = line_read-counted numbers Traps _ ∙ named_back (CountOf Traps) 0 4294967295 n refl s h.0 h.1
-count_back numbers Ends n s h = line_read-counted numbers Ends _ ∙ named_back (CountOf Ends) 0 4294967295 n refl s h.0 h.1
+count_back numbers Units n s h = line_read_counted numbers Units _ ∙ named_back (CountOf Units) 0 (numbers.cores * numbers.budget) n refl s h.0 h.1
+count_back numbers Calls n s h = line_read_counted numbers Calls _ ∙ named_back (CountOf Calls) 0 4294967295 n refl s h.0 h.1
+count_back numbers Traps n s h = line_read_counted numbers Traps _ ∙ named_back (CountOf Traps) 0 4294967295 n refl s h.0 h.1
+count_back numbers Ends n s h = line_read_counted numbers Ends _ ∙ named_back (CountOf Ends) 0 4294967295 n refl s h.0 h.1
 
 -- ---- a core and what is told of it
 
@@ -102,7 +102,7 @@ module _ (numbers : Numbers) (few : numbers.cores ≤ 2 ^ 8) (c : ℕ) (known : 
       this_form (core_number numbers ∷ form) forms (decimal c ∷ rest) c
       (with_field (core_number numbers) form (decimal c) rest (decimal_form 0 (numbers.cores - 1) c (omega arith)) s)
       (in_range_too (core_number numbers) form (decimal c) rest (decimal_in_range 0 (numbers.cores - 1) c (omega arith) (omega arith) (omega arith)) r)
-      (number-decimal c (omega arith))
+      (number_decimal c (omega arith))
 
   not_of_core : (form : List Field) (forms : List (List Field)) (rest : List (List ℕ)) → has_shape form rest ≡ false → forms_read ((core_number numbers ∷ form) ∷ forms) (decimal c ∷ rest) ≡ forms_read forms (decimal c ∷ rest)
   not_of_core form forms rest s = other_form (core_number numbers ∷ form) forms (decimal c ∷ rest) (ap (λ b. has_form (core_number numbers) (decimal c) && b) s ∙ and_no (has_form (core_number numbers) (decimal c)))
@@ -198,14 +198,14 @@ unfolding line_read
 first_back numbers = refl
 
 last_back : (numbers : Numbers) → line_read numbers LastLine (fields Last) ≡ Ok 0
-last_back numbers = line_read-last numbers _ ∙ this_form (Exactly EndWord ∷ []) [] (codes "end" ∷ []) 0 (record { is = refl }) (record { is = refl }) refl
+last_back numbers = line_read_last numbers _ ∙ this_form (Exactly EndWord ∷ []) [] (codes "end" ∷ []) 0 (record { is = refl }) (record { is = refl }) refl
 
 pub line_told : (numbers : Numbers) (line : ReportLine) → numbers.cores ≤ 2 ^ 8 → InRanges numbers line → line_read numbers (kind_of line) (fields line) ≡ Ok (told_first line)
 line_told numbers Version f h = first_back numbers
 line_told numbers (Header name n) f h = header_back numbers name n h
 line_told numbers (Count section n) f h = count_back numbers section n h.0 h.1
-line_told numbers (UnitOf c entry) f h = line_read-of numbers Units _ ∙ unit_back numbers f c h.0 entry.touch h.1
-line_told numbers (NoteOf c note) f h = line_read-of numbers Calls _ ∙ note_back numbers f c h.0 note h.1 h.2
-line_told numbers (TrapOf c trap) f h = line_read-of numbers Traps _ ∙ trap_back numbers f c h.0 trap h.1 h.2
-line_told numbers (EndOf c end) f h = line_read-of numbers Ends _ ∙ end_back numbers f c h.0 end h.1
+line_told numbers (UnitOf c entry) f h = line_read_of numbers Units _ ∙ unit_back numbers f c h.0 entry.touch h.1
+line_told numbers (NoteOf c note) f h = line_read_of numbers Calls _ ∙ note_back numbers f c h.0 note h.1 h.2
+line_told numbers (TrapOf c trap) f h = line_read_of numbers Traps _ ∙ trap_back numbers f c h.0 trap h.1 h.2
+line_told numbers (EndOf c end) f h = line_read_of numbers Ends _ ∙ end_back numbers f c h.0 end h.1
 line_told numbers Last f h = last_back numbers

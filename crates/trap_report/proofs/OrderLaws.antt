@@ -17,7 +17,7 @@ use Rattle.trap_report.specs.declared.report_line.Section.TheVariants.{Calls}
 use Rattle.trap_report.specs.declared.report_line.ReportLine.{ReportLine}
 use Rattle.trap_report.specs.declared.report_line.ReportLine.TheVariants.{Count}
 use Rattle.trap_report.proofs.SplitLemmas.{decimal_digits, fields_of_text}
-use Rattle.trap_report.proofs.RunLemmas.{marks_of-entries}
+use Rattle.trap_report.proofs.RunLemmas.{marks_of_entries}
 
 -- core numbers that fit
 abbrev pub AreSmall : List ℕ → Type 0
@@ -55,8 +55,8 @@ reports_same report other a b h =
 pub one_text_one_order : OneOrder
 unfolding text report_of
 one_text_one_order s order other cores p q h =
-    let marks = marks_of-entries s (opening s) order in
-    let others = marks_of-entries s (opening s) other in
+    let marks = marks_of_entries s (opening s) order in
+    let others = marks_of_entries s (opening s) other in
     sym marks
     ∙ reports_same (report_of s order) (report_of s other) (subst AreSmall (sym marks) (playable_small s (opening s) order cores p)) (subst AreSmall (sym others) (playable_small s (opening s) other cores q)) h
     ∙ others

@@ -25,7 +25,7 @@ use Rattle.trap_report.specs.declared.report_line.ReportLine.TheVariants.{Versio
 use Rattle.trap_report.proofs.SplitLemmas.{body, line_back, lines_back}
 use Rattle.trap_report.proofs.LineBack.{kind_of, told_first, InRanges, line_told}
 use Rattle.trap_report.proofs.ReadLemmas.{read_whole, nothing_kept}
-use Rattle.trap_report.proofs.RunLemmas.{marks_of-entries}
+use Rattle.trap_report.proofs.RunLemmas.{marks_of_entries}
 
 -- ---- one line after another
 
@@ -195,18 +195,18 @@ unfolding IsPlayableFrom
 playable_known s t [] p = tt
 playable_known s t (core ∷ order) p = (p.0, playable_known s (step s t core) order p.2)
 
-length-marks : (units : List Marked) → length (marks_of units) ≡ length units
-length-marks [] = refl
-length-marks (unit ∷ units) = ap suc (length-marks units)
+length_marks : (units : List Marked) → length (marks_of units) ≡ length units
+length_marks [] = refl
+length_marks (unit ∷ units) = ap suc (length_marks units)
 
 pub reads_back : ReadsBack
 unfolding text report_of saved_of
 reads_back s order ranges playable short fit =
     let report = report_of s order in
-    let marks : marks_of report.units ≡ order = marks_of-entries s (opening s) order in
+    let marks : marks_of report.units ≡ order = marks_of_entries s (opening s) order in
     let told = report_told report ranges
     (subst (AreKnown (core_count s)) (sym marks) (playable_known s (opening s) order playable))
-    (omega (arith, ap length marks, length-marks report.units, short))
+    (omega (arith, ap length marks, length_marks report.units, short))
     (omega (arith, length-map-range_with_len (λ c. summary_of ((along s order).cores c)) 0 (core_count s)))
     (each_from_all FitsTypes (lines_of report) fit) in
     ap (λ (lines : List (List ℕ)). read lines 0 nothing (FirstLine ∷ (header_kinds ++ section_kinds))) (lines_back (lines_of report))

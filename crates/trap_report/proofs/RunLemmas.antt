@@ -19,16 +19,16 @@ use Rattle.machine.specs.FinishedRuns.{FinishedRun, IsFinishedRun}
 use Rattle.inline_tracker.specs.Seen.{FinishedSeen, next_core}
 use Rattle.trap_report.specs.Text.{report_of, by_core, end_lines}
 use Rattle.trap_report.specs.Left.{TellsRun, IsTakenTo, IsTakenAt, following}
-use Rattle.trap_report.proofs.LeftLemmas.{length-ends}
+use Rattle.trap_report.proofs.LeftLemmas.{length_ends}
 use Rattle.trap_report.specs.declared.report_line.HeaderLine.{HeaderLine}
 use Rattle.trap_report.specs.declared.report_line.HeaderLine.TheVariants.{Cores, Budget, Limit, Stack, Heap}
 
 -- ---- a finished run tells its report
 
-pub marks_of-entries : (s : Setup) (t : State) (order : List ℕ) → marks_of (entries_from s t order) ≡ order
+pub marks_of_entries : (s : Setup) (t : State) (order : List ℕ) → marks_of (entries_from s t order) ≡ order
 unfolding entries_from
-marks_of-entries s t [] = refl
-marks_of-entries s t (core ∷ order) = ap (λ rest. core ∷ rest) (marks_of-entries s (step s t core) order)
+marks_of_entries s t [] = refl
+marks_of_entries s t (core ∷ order) = ap (λ rest. core ∷ rest) (marks_of_entries s (step s t core) order)
 
 known_core : (s : Setup) (t : State) (order : List ℕ) (place core : ℕ) → IsPlayableFrom s t order → slice_get order place ≡ Some core → core < core_count s
 unfolding IsPlayableFrom
@@ -48,26 +48,26 @@ told s f h =
       cores = sym cores;
       count = ap length cores ∙ length-map-range_with_len (λ c. summary_of ((along s f.order).cores c)) 0 (core_count s);
       ends = ap (λ (l : List Summary). length (by_core end_lines 0 l)) cores
-          ∙ length-ends 0 (λ c. summary_of ((along s f.order).cores c)) 0 (core_count s) (λ c k. h.complete.ended c (omega (arith, k)))
+          ∙ length_ends 0 (λ c. summary_of ((along s f.order).cores c)) 0 (core_count s) (λ c k. h.complete.ended c (omega (arith, k)))
           ∙ sym (ap length cores ∙ length-map-range_with_len (λ c. summary_of ((along s f.order).cores c)) 0 (core_count s));
-      order = marks_of-entries s (opening s) f.order;
+      order = marks_of_entries s (opening s) f.order;
       known = λ place core e. omega (arith, count, known_core s (opening s) f.order place core h.complete.playable e);
       parts = λ core k. ap (λ (l : List (List Entry)). get_or l core []) logs ∙ get_or-map-range_with_len (log_along s f.order) 0 (core_count s) core core [] (omega (arith, count)) (omega arith);
     }
 
 -- ---- before the first unit nothing is taken
 
-get_or-same : (n i x : ℕ) → get_or (replicate n x) i x ≡ x
-get_or-same zero i x = refl
-get_or-same (suc n) zero x = refl
-get_or-same (suc n) (suc i) x = get_or-same n i x
+get_or_same : (n i x : ℕ) → get_or (replicate n x) i x ≡ x
+get_or_same zero i x = refl
+get_or_same (suc n) zero x = refl
+get_or_same (suc n) (suc i) x = get_or_same n i x
 
 pub none_taken : (s : Setup) (f : FinishedSeen) (taken : List ℕ) (n : ℕ) → n ≡ 256 → taken ≡ replicate n 0 → f.given ≡ 0 → TellsRun s f.run → IsTakenTo s f 0 taken
 none_taken s f taken n size zeros front t = record {
   given = front;
   size = ap length zeros ∙ (let none : ℕ = 0 in length-replicate n none) ∙ size;
   left = λ core k.
-      let none : get_or taken core 0 ≡ 0 = ap (λ (l : List ℕ). get_or l core 0) zeros ∙ (let nought : ℕ = 0 in get_or-same n core nought) in
+      let none : get_or taken core 0 ≡ 0 = ap (λ (l : List ℕ). get_or l core 0) zeros ∙ (let nought : ℕ = 0 in get_or_same n core nought) in
       rw none (t.parts core k);
 }
 
@@ -80,9 +80,9 @@ taken_following Heap s f taken h = h
 
 -- ---- one more unit
 
-pub length-marks_of : (units : List Marked) → length (marks_of units) ≡ length units
-length-marks_of [] = refl
-length-marks_of (unit ∷ units) = ap suc (length-marks_of units)
+pub length_marks_of : (units : List Marked) → length (marks_of units) ≡ length units
+length_marks_of [] = refl
+length_marks_of (unit ∷ units) = ap suc (length_marks_of units)
 
 unit_of : (units : List Marked) (place core : ℕ) → slice_get (marks_of units) place ≡ Some core → (entry : Entry) × (drop place units ≡ (core, entry) ∷ drop (place + 1) units)
 unit_of [] place core h = absurd (let no : ⊥ = cc in no)
@@ -93,11 +93,11 @@ unit_of (unit ∷ units) (suc place) core h =
     let rest = unit_of units place core h in
     (rest.0, rw add-one (rw add-one at rest.1))
 
-part_of-same : (core : ℕ) (entry : Entry) (units : List Marked) → part_of core ((core, entry) ∷ units) ≡ entry ∷ part_of core units
-part_of-same core entry units = rw (eq-eqb core core refl) refl
+part_of_same : (core : ℕ) (entry : Entry) (units : List Marked) → part_of core ((core, entry) ∷ units) ≡ entry ∷ part_of core units
+part_of_same core entry units = rw (eq-eqb core core refl) refl
 
-part_of-other : (other core : ℕ) (entry : Entry) (units : List Marked) → (core ≡ other → ⊥) → part_of other ((core, entry) ∷ units) ≡ part_of other units
-part_of-other other core entry units h = rw (ne_eqb core other h) refl
+part_of_other : (other core : ℕ) (entry : Entry) (units : List Marked) → (core ≡ other → ⊥) → part_of other ((core, entry) ∷ units) ≡ part_of other units
+part_of_other other core entry units h = rw (ne_eqb core other h) refl
 
 module _ (s : Setup) (f : FinishedSeen) (place : ℕ) (taken : List ℕ) (core : ℕ) (t : TellsRun s f.run) (k : IsTakenTo s f place taken) (at : slice_get f.run.order place ≡ Some core) where
   abbrev units : List Marked
@@ -107,7 +107,7 @@ module _ (s : Setup) (f : FinishedSeen) (place : ℕ) (taken : List ℕ) (core :
   unit = unit_of units place core (ap (λ (o : List ℕ). slice_get o place) t.order ∙ at)
 
   left_is : drop (get_or taken core 0) (log_of f.run.logs core) ≡ unit.0 ∷ part_of core (drop (place + 1) units)
-  left_is = k.left core (t.known place core at) ∙ ap (part_of core) unit.1 ∙ part_of-same core unit.0 (drop (place + 1) units)
+  left_is = k.left core (t.known place core at) ∙ ap (part_of core) unit.1 ∙ part_of_same core unit.0 (drop (place + 1) units)
 
   pub more_left : get_or taken core 0 < length (log_of f.run.logs core)
   more_left =
@@ -132,7 +132,7 @@ module _ (s : Setup) (f : FinishedSeen) (place : ℕ) (taken : List ℕ) (core :
           subst P same here
       | inr differ ↦
           let now_is : get_or now other 0 ≡ get_or taken other 0 = ap (λ (l : List ℕ). get_or l other 0) new ∙ get_or-set_other taken core other (get_or taken core 0 + 1) 0 (λ q. differ (sym q)) in
-          ap (λ (n : ℕ). drop n (log_of f.run.logs other)) now_is ∙ k.left other h ∙ ap (part_of other) unit.1 ∙ part_of-other other core unit.0 (drop (place + 1) units) differ
+          ap (λ (n : ℕ). drop n (log_of f.run.logs other)) now_is ∙ k.left other h ∙ ap (part_of other) unit.1 ∙ part_of_other other core unit.0 (drop (place + 1) units) differ
     ];
   }
 

@@ -142,10 +142,10 @@ fields_clean Last = (refl, tt)
 abbrev pub body : List (List ℕ) → List ℕ
 body fields = join_with_byte 32 fields
 
-spelled-body : (fields : List (List ℕ)) → spelled fields ≡ body fields ++ 10 ∷ []
-spelled-body [] = refl
-spelled-body (field ∷ []) = refl
-spelled-body (field ∷ next ∷ fields) = ap (λ rest. field ++ 32 ∷ rest) (spelled-body (next ∷ fields)) ∙ sym (append_assoc field (32 ∷ body (next ∷ fields)) (10 ∷ []))
+spelled_body : (fields : List (List ℕ)) → spelled fields ≡ body fields ++ 10 ∷ []
+spelled_body [] = refl
+spelled_body (field ∷ []) = refl
+spelled_body (field ∷ next ∷ fields) = ap (λ rest. field ++ 32 ∷ rest) (spelled_body (next ∷ fields)) ∙ sym (append_assoc field (32 ∷ body (next ∷ fields)) (10 ∷ []))
 
 weaker : (text : List ℕ) → is_above 32 text ≡ true → is_above 10 text ≡ true
 weaker [] h = refl
@@ -181,7 +181,7 @@ line_back line =
 pub lines_back : (lines : List ReportLine) → lines_in (flat_map line_text lines) ≡ map (λ line. body (fields line)) lines ++ [] ∷ []
 lines_back [] = refl
 lines_back (line ∷ lines) =
-    let text : line_text line ++ flat_map line_text lines ≡ body (fields line) ++ 10 ∷ flat_map line_text lines = rw (spelled-body (fields line)) (append_assoc (body (fields line)) (10 ∷ []) (flat_map line_text lines)) in
+    let text : line_text line ++ flat_map line_text lines ≡ body (fields line) ++ 10 ∷ flat_map line_text lines = rw (spelled_body (fields line)) (append_assoc (body (fields line)) (10 ∷ []) (flat_map line_text lines)) in
     ap lines_in text ∙ split_above 10 (body (fields line)) (flat_map line_text lines) (body_above (fields line) (fields_clean line))
     ∙ ap (λ rest. body (fields line) ∷ rest) (lines_back lines)
 

@@ -4,7 +4,7 @@ use Rattle.inline_tracker.specs.Seen.{FinishedSeen}
 use Rattle.trap_report.specs.Fields.{line_text}
 use Rattle.trap_report.specs.Left.{IsTakenAt, left}
 use Rattle.trap_report.specs.declared.place.LinePlace.{LinePlace}
-use Rattle.trap_report.proofs.LeftLemmas.{text-lines}
+use Rattle.trap_report.proofs.LeftLemmas.{text_lines}
 use Rattle.trap_report.proofs.RunLemmas.{told, none_taken}
 use Rattle.trap_report.proofs.DifferenceLemmas.{differ_on, same_on, differ_after}
 use Rattle.trap_report.proofs.difference.first_difference.Goals as goal
@@ -18,7 +18,7 @@ loop-line-init c =
     let start = c.new-cursor.ensures.place in
     let P : LinePlace → Type 0 = λ place. IsTakenAt setup rewound place c.new-cursor.result.taken in record {
       within = omega arith;
-      same = text-lines setup run.order ∙ ap (λ (place : LinePlace). flat_map line_text (left setup run place)) (sym start);
+      same = text_lines setup run.order ∙ ap (λ (place : LinePlace). flat_map line_text (left setup run place)) (sym start);
       run = same_run;
       taken = subst P (sym start) (none_taken setup rewound c.new-cursor.result.taken 256 refl c.new-cursor.ensures.taken (ap (λ (f : FinishedSeen). f.given) c.rewind.ensures) (rw same_run (told setup run c.requires)));
     }

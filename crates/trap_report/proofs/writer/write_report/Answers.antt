@@ -5,7 +5,7 @@ use Rattle.inline_tracker.specs.Seen.{FinishedSeen}
 use Rattle.trap_report.specs.Fields.{line_text}
 use Rattle.trap_report.specs.Left.{IsTakenAt, left}
 use Rattle.trap_report.specs.declared.place.LinePlace.{LinePlace}
-use Rattle.trap_report.proofs.LeftLemmas.{text-lines}
+use Rattle.trap_report.proofs.LeftLemmas.{text_lines}
 use Rattle.trap_report.proofs.RunLemmas.{told, none_taken}
 use Rattle.trap_report.proofs.WriteLemmas.{nothing_written, line_put, piece_cut, on_err, on_err_by}
 use Rattle.trap_report.proofs.writer.write_report.Goals as goal
@@ -19,7 +19,7 @@ loop-line-init g c =
     let start = c.new-cursor.ensures.place in
     let P : LinePlace → Type 0 = λ place. IsTakenAt setup rewound place c.new-cursor.result.taken in record {
       written = nothing_written _ _ _ (
-          text-lines setup run.order
+          text_lines setup run.order
           ∙ ap (λ (place : LinePlace). flat_map line_text (left setup run place)) (sym start)
           ∙ ap (λ (block : List ℕ). block ++ flat_map line_text (left setup run c.new-cursor.result.place)) (sym c.new-block.ensures)
           );

@@ -1,5 +1,5 @@
 use Rattle.std.proofs.Common.{sym, ◌∙◌, arith, append-nil}
-use Rattle.trap_report.proofs.DigitLemmas.{hex-zero, next_digit}
+use Rattle.trap_report.proofs.DigitLemmas.{hex_zero, next_digit}
 use Rattle.trap_report.proofs.block.Block.push_hex.Goals as goal
 
 pub loop-left-preserved : goal.loop-left-preserved
@@ -12,4 +12,4 @@ loop-left-preserved c = record {
 }
 
 pub returns-clause-text : goal.returns-clause-text
-returns-clause-text c = sym (append-nil _) ∙ (rw (← hex-zero c.loop-left.left c.args.number (omega arith)) c.loop-left.invariant.text)
+returns-clause-text c = sym (append-nil _) ∙ (rw (← hex_zero c.loop-left.left c.args.number (omega arith)) c.loop-left.invariant.text)
