@@ -12,7 +12,7 @@ ghost use Rattle.ticket_table.specs.Passes.{IfDone, IfNotYet};
 use crate::change::{Note, Setting, View};
 use crate::rule::{Counts, Exchanges, Looks, Tickets};
 use crate::served::Served;
-use crate::word::{HALF, packed, number, payload};
+use crate::word::{HALF, number, packed, payload};
 use atomic_table::{Seat, Shared};
 use rv_execute::{MOST_NUMBERS, Op, apply};
 
