@@ -6,7 +6,7 @@ use Rattle.record_lane.specs.declared.record.Record.TheVariants.{Quiet, Blank, T
 use Rattle.record_lane.specs.declared.reply.Reply.{Reply}
 use Rattle.record_lane.specs.declared.ring_token.RingTaker.{RingTaker}
 use Rattle.record_lane.specs.declared.lane_token.Sender.{Sender}
-use Rattle.record_lane.specs.Rings.{taken_by}
+use Rattle.record_lane.specs.Rings.{taken_by, taker_looks}
 use Rattle.record_lane.specs.Lanes.{sent_by}
 use Rattle.tag_policy.specs.Rules.{PolicySeen}
 use Rattle.tag_registers.specs.declared.ask.TagAsk.TheVariants.{Answer}
@@ -94,8 +94,9 @@ takes_past a item tags taker ended done going free took pass after last =
     }
 
 taken_past : (a : TagActorSeen) (item : Record) (taker : RingTaker Record)
-    → a.ended ≡ false → a.hand ≡ None → taken_by taker ≡ taken_by a.taker ++ item ∷ [] → HasTaken a item (record a { hand = Some item; taker = taker })
-taken_past a item taker going free took = record { going = going; free = free; after = refl; taken = took }
+    → a.ended ≡ false → a.hand ≡ None → taken_by taker ≡ taken_by a.taker ++ item ∷ [] → taker_looks taker ≡ taker_looks a.taker + 1
+    → HasTaken a item (record a { hand = Some item; taker = taker })
+taken_past a item taker going free took looked = record { going = going; free = free; after = refl; taken = took; look = looked }
 
 -- ---- the same of an actor and of what its fields show
 
@@ -120,30 +121,30 @@ replied_keeps v a item reply tags sender done is h going held meet asks after se
     (reply_consumes v item reply tags sender done (ap (λ (t : TagActorSeen). t.ended) is ∙ going) (ap (λ (t : TagActorSeen). t.hand) is ∙ held) meet asks after sent) counted
 
 pub has_passed : (v a : TagActorSeen) (item : Record) (tags : Tags) (taker : RingTaker Record) (ended : Bool) (done : ℕ) → v ≡ a
-    → a.ended ≡ false → a.hand ≡ None → taken_by taker ≡ taken_by v.taker ++ item ∷ []
+    → a.ended ≡ false → a.hand ≡ None → taken_by taker ≡ taken_by v.taker ++ item ∷ [] → taker_looks taker ≡ taker_looks v.taker + 1
     → must_wait item ≡ false → tags ≡ consumed v.policy v.tags item → ended ≡ is_end item
     → HasPassed a (record v { tags = tags; taker = taker; ended = ended; done = done })
-has_passed v a item tags taker ended done is going free took pass after last =
+has_passed v a item tags taker ended done is going free took looked pass after last =
     let v_going : v.ended ≡ false = ap (λ (t : TagActorSeen). t.ended) is ∙ going in
     let v_free : v.hand ≡ None = ap (λ (t : TagActorSeen). t.hand) is ∙ free in
     subst (λ (t : TagActorSeen). HasPassed t (record v { tags = tags; taker = taker; ended = ended; done = done })) is
     (record {
       item = item;
       between = record v { hand = Some item; taker = taker };
-      takes = taken_past v item taker v_going v_free took;
+      takes = taken_past v item taker v_going v_free took looked;
       consumes = takes_past v item tags taker ended done v_going v_free took pass after last;
     })
 
 pub past_keeps : (v a : TagActorSeen) (item : Record) (tags : Tags) (taker : RingTaker Record) (ended : Bool) (done : ℕ) → v ≡ a → IsTagActor v
-    → a.ended ≡ false → a.hand ≡ None → taken_by taker ≡ taken_by v.taker ++ item ∷ []
+    → a.ended ≡ false → a.hand ≡ None → taken_by taker ≡ taken_by v.taker ++ item ∷ [] → taker_looks taker ≡ taker_looks v.taker + 1
     → must_wait item ≡ false → tags ≡ consumed v.policy v.tags item → ended ≡ is_end item
     → length (taken_by taker) ≤ 2 ^ 61 → done ≡ min (v.done + 1) 4294967295
     → IsTagActor (record v { tags = tags; taker = taker; ended = ended; done = done })
-past_keeps v a item tags taker ended done is h going free took pass after last few counted =
+past_keeps v a item tags taker ended done is h going free took looked pass after last few counted =
     let v_going : v.ended ≡ false = ap (λ (t : TagActorSeen). t.ended) is ∙ going in
     let v_free : v.hand ≡ None = ap (λ (t : TagActorSeen). t.hand) is ∙ free in
     passed_keeps v (record v { hand = Some item; taker = taker }) (record v { tags = tags; taker = taker; ended = ended; done = done }) item h
-    (taken_past v item taker v_going v_free took)
+    (taken_past v item taker v_going v_free took looked)
     (takes_past v item tags taker ended done v_going v_free took pass after last) few counted
 
 -- what waits and is no touch is a meeting

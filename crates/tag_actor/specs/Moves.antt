@@ -5,7 +5,7 @@ use Rattle.record_lane.specs.declared.record.Record.TheVariants.{Touch}
 use Rattle.record_lane.specs.declared.reply.Reply.{Reply}
 use Rattle.record_lane.specs.declared.ring.Ring.{Ring}
 use Rattle.record_lane.specs.declared.lane.Lane.{Lane}
-use Rattle.record_lane.specs.Rings.{taken_by, WasEmpty}
+use Rattle.record_lane.specs.Rings.{taken_by, taker_looks, WasEmpty}
 use Rattle.record_lane.specs.Lanes.{sent_by, WasFull}
 use Rattle.tag_registers.specs.Tags.{tags_after}
 use Rattle.tag_registers.specs.Files.{is_touch}
@@ -18,12 +18,13 @@ use Rattle.tag_actor.specs.declared.answer.Took.{Took}
 use Rattle.tag_actor.specs.declared.answer.Took.TheVariants.{Nothing, Consumed, InHand}
 use Rattle.tag_actor.specs.Seen.{TagActorSeen, is_meet, is_end}
 
--- the record comes from the ring into the hand
+-- the record comes from the ring into the hand, by one look
 pub record HasTaken (a : TagActorSeen) (item : Record) (b : TagActorSeen) : Type 0 where
   pub going : a.ended ≡ false
   pub free : a.hand ≡ None
   pub after : b ≡ record a { hand = Some item; taker = b.taker }
   pub taken : taken_by b.taker ≡ taken_by a.taker ++ item ∷ []
+  pub look : taker_looks b.taker ≡ taker_looks a.taker + 1
 
 -- the pass is the same caller's, at the same table
 pub record IsSameCaller (a b : TagActorSeen) : Type 0 where
