@@ -6,6 +6,7 @@ pub mod DifferenceLemmas
 mod Rows
 pub mod MatchLemmas
 pub mod KindLemmas
+pub mod KindLaws
 pub mod ReadLemmas
 pub mod SplitLemmas
 pub mod OrderLaws

@@ -11,13 +11,14 @@ use Rattle.record_lane.specs.declared.note.CallNote.{CallNote}
 use Rattle.record_lane.specs.declared.reply.Trap.{Trap}
 use Rattle.syscall_drain.specs.declared.end.End.{End}
 use Rattle.syscall_drain.specs.declared.end.End.TheVariants.{Exit, Trapped, Fault, Budget as BudgetEnd, Spent}
+use Rattle.machine.proofs.LocalRanges.{IsByteEnd}
+use Rattle.machine.proofs.Ranges.{IsTouchOfWords, IsNoteOfWords, IsTrapOfWords}
 use Rattle.trap_report.specs.Digits.{hex}
 use Rattle.trap_report.specs.Names.{kind_name, verdict_name}
 use Rattle.trap_report.specs.Text.{Numbers}
 use Rattle.trap_report.specs.Fields.{fields, touch_fields, note_fields, trap_fields, end_fields}
 use Rattle.trap_report.specs.Forms.{has_form, is_in_range, has_shape, forms_read, word_text}
 use Rattle.trap_report.specs.Reading.{LineKind, FirstLine, Numbered, Counted, LineOf, LastLine, any_number, core_number, header_range, count_range, section_forms, end_forms, line_read}
-use Rattle.trap_report.specs.ReportLaws.{FitsTouch, FitsEnd}
 use Rattle.trap_report.specs.Matching.{ReadsWithin}
 use Rattle.trap_report.specs.declared.form.ReportWord.{ReportWord}
 use Rattle.trap_report.specs.declared.form.ReportWord.TheVariants.{NameOf, CountOf, Exit as ExitWord, Trapped as TrappedWord, Fault as FaultWord, Budget as BudgetWord, Spent as SpentWord, End as EndWord}
@@ -58,10 +59,10 @@ abbrev pub InRanges : Numbers → ReportLine → Type 0
 InRanges numbers Version = Unit {0}
 InRanges numbers (Header name number) = ReadsWithin (header_range name ∷ []) number
 InRanges numbers (Count section number) = (number < 2 ^ 32) × ReadsWithin (count_range numbers section ∷ []) number
-InRanges numbers (UnitOf core entry) = (core < numbers.cores) × FitsTouch entry.touch
-InRanges numbers (NoteOf core note) = (core < numbers.cores) × (note.step < 2 ^ 32) × (note.call < 2 ^ 32)
-InRanges numbers (TrapOf core trap) = (core < numbers.cores) × (trap.step < 2 ^ 32) × (trap.kind < 2 ^ 8)
-InRanges numbers (EndOf core end) = (core < numbers.cores) × FitsEnd end
+InRanges numbers (UnitOf core entry) = (core < numbers.cores) × IsTouchOfWords entry.touch
+InRanges numbers (NoteOf core note) = (core < numbers.cores) × IsNoteOfWords note
+InRanges numbers (TrapOf core trap) = (core < numbers.cores) × IsTrapOfWords trap
+InRanges numbers (EndOf core end) = (core < numbers.cores) × IsByteEnd end
 InRanges numbers Last = Unit {0}
 
 -- ---- a name and a number
@@ -107,7 +108,7 @@ module _ (numbers : Numbers) (few : numbers.cores ≤ 2 ^ 8) (c : ℕ) (known : 
   not_of_core : (form : List Field) (forms : List (List Field)) (rest : List (List ℕ)) → has_shape form rest ≡ false → forms_read ((core_number numbers ∷ form) ∷ forms) (decimal c ∷ rest) ≡ forms_read forms (decimal c ∷ rest)
   not_of_core form forms rest s = other_form (core_number numbers ∷ form) forms (decimal c ∷ rest) (ap (λ b. has_form (core_number numbers) (decimal c) && b) s ∙ and_no (has_form (core_number numbers) (decimal c)))
 
-  unit_back : (touch : Option Access) → FitsTouch touch → forms_read (section_forms (core_number numbers) Units) (decimal c ∷ touch_fields touch) ≡ Ok c
+  unit_back : (touch : Option Access) → IsTouchOfWords touch → forms_read (section_forms (core_number numbers) Units) (decimal c ∷ touch_fields touch) ≡ Ok c
   unit_back None h = of_core [] ((core_number numbers ∷ any_number ∷ any_number ∷ Hex 8 ∷ []) ∷ []) [] no_field no_range
   unit_back (Some access) h =
       not_of_core [] ((core_number numbers ∷ any_number ∷ any_number ∷ Hex 8 ∷ []) ∷ []) (touch_fields (Some access)) refl
@@ -165,7 +166,7 @@ module _ (numbers : Numbers) (few : numbers.cores ≤ 2 ^ 8) (c : ℕ) (known : 
   fault_small StoreReadOnly = omega arith
   fault_small Break = omega arith
 
-  end_back : (end : End) → FitsEnd end → forms_read (end_forms (core_number numbers)) (decimal c ∷ end_fields end) ≡ Ok c
+  end_back : (end : End) → IsByteEnd end → forms_read (end_forms (core_number numbers)) (decimal c ∷ end_fields end) ≡ Ok c
   end_back (Exit code) h =
       of_core (Exactly ExitWord ∷ Decimal 0 255 ∷ []) _ (codes "exit" ∷ decimal code ∷ [])
       (with_field (Exactly ExitWord) _ _ _ refl (with_field (Decimal 0 255) _ _ _ (decimal_form 0 255 code (omega (arith, h))) no_field))
@@ -205,7 +206,7 @@ line_told numbers Version f h = first_back numbers
 line_told numbers (Header name n) f h = header_back numbers name n h
 line_told numbers (Count section n) f h = count_back numbers section n h.0 h.1
 line_told numbers (UnitOf c entry) f h = line_read_of numbers Units _ ∙ unit_back numbers f c h.0 entry.touch h.1
-line_told numbers (NoteOf c note) f h = line_read_of numbers Calls _ ∙ note_back numbers f c h.0 note h.1 h.2
-line_told numbers (TrapOf c trap) f h = line_read_of numbers Traps _ ∙ trap_back numbers f c h.0 trap h.1 h.2
+line_told numbers (NoteOf c note) f h = line_read_of numbers Calls _ ∙ note_back numbers f c h.0 note h.1.0 h.1.1
+line_told numbers (TrapOf c trap) f h = line_read_of numbers Traps _ ∙ trap_back numbers f c h.0 trap h.1.0 h.1.1
 line_told numbers (EndOf c end) f h = line_read_of numbers Ends _ ∙ end_back numbers f c h.0 end h.1
 line_told numbers Last f h = last_back numbers

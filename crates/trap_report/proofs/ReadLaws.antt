@@ -1,6 +1,8 @@
 -- A report that is written reads back.
-use Rattle.std.proofs.Common.{◌≡◌, ℕ, suc, ◌+◌, ◌*◌, ◌<◌, ◌≤◌, ◌^◌, List, [], ◌∷◌, ◌++◌, map, length, replicate, Option, Some, None, Ok, refl, sym, ap, ◌∙◌, subst, arith, append_assoc, append-nil}
-use Rattle.std.specs.Prelude.{All}
+use Rattle.std.proofs.Common.{◌≡◌, ℕ, zero, suc, ◌+◌, ◌*◌, ◌<◌, ◌≤◌, ◌^◌, List, [], ◌∷◌, ◌++◌, map, length, replicate, Option, Some, None, Ok, refl, sym, ap, ◌∙◌, subst, arith, append_assoc, append-nil, length-append}
+use Rattle.std.specs.List.{AllByRecursion, range_with_len}
+use Rattle.std.specs.Option.{IfSome}
+use Rattle.std.proofs.lemmas.Nat.{mul-le}
 use Rattle.std.proofs.lemmas.List.{length-map}
 use Rattle.std.proofs.lemmas.List.FromFn.{length-map-range_with_len}
 use Rattle.order_core.specs.Marked.{Marked, marks_of}
@@ -10,13 +12,16 @@ use Rattle.syscall_drain.specs.declared.end.End.{End}
 use Rattle.machine.specs.Setups.{Setup, core_count}
 use Rattle.machine.specs.States.{State, opening}
 use Rattle.machine.specs.Steps.{step}
-use Rattle.machine.specs.Runs.{IsPlayableFrom, along}
+use Rattle.machine.specs.Runs.{IsPlayableFrom, IsPlayable, along, entries}
 use Rattle.machine.specs.Outcomes.{Summary, summary_of}
+use Rattle.machine.proofs.Along.{at_along, playable_short}
+use Rattle.machine.proofs.LocalRanges.{IsByteEndIf}
+use Rattle.machine.proofs.Ranges.{IsNoteOfWords, IsTrapOfWords, IsUnitOfWords, words_along}
 use Rattle.trap_report.specs.Fields.{fields}
 use Rattle.trap_report.specs.Text.{Numbers, Report, numbers_of, report_of, text, unit_lines, by_core, note_lines, trap_lines, end_lines, line_if, section_lines, lines_of}
 use Rattle.trap_report.specs.Reading.{LineKind, FirstLine, Counted, LineOf, LastLine, Reported, fields_of, read, line_read, reported_after, counted_lines, saved_of, header_kinds, section_kinds, nothing}
 use Rattle.trap_report.specs.Saved.{HasRanges}
-use Rattle.trap_report.specs.ReportLaws.{FitsTypes, ReadsBack}
+use Rattle.trap_report.specs.ReportLaws.{IsReportable, ReadsBack}
 use Rattle.trap_report.specs.declared.report_line.HeaderLine.TheVariants.{Cores, Budget, Limit, Stack, Heap}
 use Rattle.trap_report.specs.declared.report_line.Section.{Section}
 use Rattle.trap_report.specs.declared.report_line.Section.TheVariants.{Units, Calls, Traps, Ends}
@@ -100,60 +105,80 @@ section_told section lines after told all kinds other few short each rest =
 
 -- ---- the lines of the cores
 
-each_front : (P : ReportLine → Type 0) (lines after : List ReportLine) → Each P (lines ++ after) → Each P lines
-each_front P [] after h = tt
-each_front P (line ∷ lines) after h = (h.0, each_front P lines after h.1)
-
-each_back : (P : ReportLine → Type 0) (lines after : List ReportLine) → Each P (lines ++ after) → Each P after
-each_back P [] after h = h
-each_back P (line ∷ lines) after h = each_back P lines after h.1
-
 each_both : (P : ReportLine → Type 0) (lines after : List ReportLine) → Each P lines → Each P after → Each P (lines ++ after)
 each_both P [] after h k = k
 each_both P (line ∷ lines) after h k = (h.0, each_both P lines after h.1 k)
 
-each_from_all : (P : ReportLine → Type 0) (lines : List ReportLine) → All P lines → Each P lines
-each_from_all P [] h = tt
-each_from_all P (line ∷ lines) h = (h 0 line (omega arith), each_from_all P lines (λ k d within. h (suc k) d (omega arith)))
+-- what is told of a core fits its types, and it has at most so many notes
+record IsTellable (most : ℕ) (summary : Summary) : Type 0 where
+  notes : AllByRecursion IsNoteOfWords summary.notes
+  few : length summary.notes ≤ most
+  trap : IfSome summary.trap IsTrapOfWords
+  ending : IsByteEndIf summary.ending
 
-cores_belong : (section : Section) (numbers : Numbers) (of : ℕ → Summary → List ReportLine) → ((core : ℕ) (summary : Summary) → core < numbers.cores → Each FitsTypes (of core summary) → Each (Belongs section numbers) (of core summary))
-    → (core : ℕ) (cores : List Summary) → core + length cores ≤ numbers.cores → Each FitsTypes (by_core of core cores) → Each (Belongs section numbers) (by_core of core cores)
-cores_belong section numbers of one core [] few fit = tt
-cores_belong section numbers of one core (summary ∷ cores) few fit =
-    each_both (Belongs section numbers) (of core summary) (by_core of (suc core) cores)
-    (one core summary (omega arith) (each_front FitsTypes (of core summary) (by_core of (suc core) cores) fit))
-    (cores_belong section numbers of one (suc core) cores (omega arith) (each_back FitsTypes (of core summary) (by_core of (suc core) cores) fit))
+-- the lines of a section of one core belong there, and are at most so many
+record IsLinesOf (section : Section) (numbers : Numbers) (most : ℕ) (lines : List ReportLine) : Type 0 where
+  each : Each (Belongs section numbers) lines
+  few : length lines ≤ most
 
-notes_belong : (numbers : Numbers) (core : ℕ) (notes : List CallNote) → core < numbers.cores → Each FitsTypes (map (NoteOf core) notes) → Each (Belongs Calls numbers) (map (NoteOf core) notes)
+cores_belong : (section : Section) (numbers : Numbers) (most notes : ℕ) (of : ℕ → Summary → List ReportLine)
+    → ((core : ℕ) (summary : Summary) → core < numbers.cores → IsTellable notes summary → IsLinesOf section numbers most (of core summary))
+    → (core : ℕ) (cores : List Summary) → core + length cores ≤ numbers.cores → AllByRecursion (IsTellable notes) cores → IsLinesOf section numbers (length cores * most) (by_core of core cores)
+cores_belong section numbers most notes of one core [] few fit = record { each = tt; few = omega arith }
+cores_belong section numbers most notes of one core (summary ∷ cores) few fit =
+    let here = one core summary (omega arith) fit.0 in
+    let rest = cores_belong section numbers most notes of one (suc core) cores (omega arith) fit.1 in
+    record {
+      each = each_both (Belongs section numbers) (of core summary) (by_core of (suc core) cores) here.each rest.each;
+      few = omega (arith, length-append (of core summary) (by_core of (suc core) cores), here.few, rest.few);
+    }
+
+notes_belong : (numbers : Numbers) (core : ℕ) (notes : List CallNote) → core < numbers.cores → AllByRecursion IsNoteOfWords notes → Each (Belongs Calls numbers) (map (NoteOf core) notes)
 notes_belong numbers core [] known fit = tt
-notes_belong numbers core (note ∷ notes) known fit = (record { kind = refl; ranges = (known, fit.0.0, fit.0.1) }, notes_belong numbers core notes known fit.1)
+notes_belong numbers core (note ∷ notes) known fit = (record { kind = refl; ranges = (known, fit.0) }, notes_belong numbers core notes known fit.1)
 
-trap_belongs : (numbers : Numbers) (core : ℕ) (trap : Option Trap) → core < numbers.cores → Each FitsTypes (line_if (TrapOf core) trap) → Each (Belongs Traps numbers) (line_if (TrapOf core) trap)
-trap_belongs numbers core None known fit = tt
-trap_belongs numbers core (Some trap) known fit = (record { kind = refl; ranges = (known, fit.0.0, fit.0.1) }, tt)
+note_lines_of : (numbers : Numbers) (most core : ℕ) (summary : Summary) → core < numbers.cores → IsTellable most summary → IsLinesOf Calls numbers most (note_lines core summary)
+note_lines_of numbers most core summary known fit = record {
+  each = notes_belong numbers core summary.notes known fit.notes;
+  few = omega (arith, length-map summary.notes (NoteOf core), fit.few);
+}
 
-end_belongs : (numbers : Numbers) (core : ℕ) (end : Option End) → core < numbers.cores → Each FitsTypes (line_if (EndOf core) end) → Each (Belongs Ends numbers) (line_if (EndOf core) end)
-end_belongs numbers core None known fit = tt
-end_belongs numbers core (Some end) known fit = (record { kind = refl; ranges = (known, fit.0) }, tt)
+trap_line_of : (numbers : Numbers) (core : ℕ) (trap : Option Trap) → core < numbers.cores → IfSome trap IsTrapOfWords → IsLinesOf Traps numbers 1 (line_if (TrapOf core) trap)
+trap_line_of numbers core None known fit = record { each = tt; few = omega arith }
+trap_line_of numbers core (Some trap) known fit = record { each = (record { kind = refl; ranges = (known, fit) }, tt); few = omega arith }
+
+end_line_of : (numbers : Numbers) (core : ℕ) (end : Option End) → core < numbers.cores → IsByteEndIf end → IsLinesOf Ends numbers 1 (line_if (EndOf core) end)
+end_line_of numbers core None known fit = record { each = tt; few = omega arith }
+end_line_of numbers core (Some end) known fit = record { each = (record { kind = refl; ranges = (known, fit) }, tt); few = omega arith }
 
 -- core numbers below the count of cores
 abbrev pub AreKnown : ℕ → List ℕ → Type 0
 AreKnown cores [] = Unit {0}
 AreKnown cores (core ∷ order) = (core < cores) × AreKnown cores order
 
-units_in_range : (numbers : Numbers) (units : List Marked) → AreKnown numbers.cores (marks_of units) → Each FitsTypes (unit_lines units) → Each (InRanges numbers) (unit_lines units)
+units_in_range : (numbers : Numbers) (units : List Marked) → AreKnown numbers.cores (marks_of units) → AllByRecursion IsUnitOfWords units → Each (InRanges numbers) (unit_lines units)
 units_in_range numbers [] known fit = tt
 units_in_range numbers (unit ∷ units) known fit = ((known.0, fit.0), units_in_range numbers units known.1 fit.1)
 
 -- ---- the whole report
 
-report_told : (report : Report) → HasRanges report.numbers → AreKnown report.numbers.cores (marks_of report.units) → length report.units ≤ report.numbers.cores * report.numbers.budget → length report.cores ≤ report.numbers.cores
-    → Each FitsTypes (lines_of report) → Tells (lines_of report) nothing (FirstLine ∷ (header_kinds ++ section_kinds)) (record { numbers = report.numbers; order = marks_of report.units })
-report_told report ranges known short few fit =
+-- a report whose numbers are in their ranges, and whose units and cores are those of a run within the budgets
+record IsReported (report : Report) : Type 0 where
+  ranges : HasRanges report.numbers
+  known : AreKnown report.numbers.cores (marks_of report.units)
+  short : length report.units ≤ report.numbers.cores * report.numbers.budget
+  units : AllByRecursion IsUnitOfWords report.units
+  few : length report.cores ≤ report.numbers.cores
+  cores : AllByRecursion (IsTellable 1048576) report.cores
+
+report_told : (report : Report) → IsReported report → Tells (lines_of report) nothing (FirstLine ∷ (header_kinds ++ section_kinds)) (record { numbers = report.numbers; order = marks_of report.units })
+report_told report is =
     let numbers = report.numbers in
+    let ranges = is.ranges in
     let all : Reported = record { numbers = numbers; order = marks_of report.units } in
     let begun : Reported = record { numbers = numbers; order = [] } in
     let small : numbers.cores ≤ 2 ^ 8 = omega (arith, ranges.cores) in
+    let few : length report.cores ≤ 8 = omega (arith, is.few, ranges.cores) in
     let units = unit_lines report.units in
     let notes = by_core note_lines 0 report.cores in
     let traps = by_core trap_lines 0 report.cores in
@@ -161,26 +186,23 @@ report_told report ranges known short few fit =
     let after_traps = section_lines Ends ends ++ Last ∷ [] in
     let after_notes = section_lines Traps traps ++ after_traps in
     let after_units = section_lines Calls notes ++ after_notes in
-    let units_fit = fit.1.1.1.1.1.1 in
-    let notes_fit = each_back FitsTypes units after_units units_fit.1 in
-    let traps_fit = each_back FitsTypes notes after_notes notes_fit.1 in
-    let ends_fit = each_back FitsTypes traps after_traps traps_fit.1 in
+    let of_notes = cores_belong Calls numbers 1048576 1048576 note_lines (note_lines_of numbers 1048576) 0 report.cores (omega (arith, is.few)) is.cores in
+    let of_traps = cores_belong Traps numbers 1 1048576 trap_lines (λ core summary known fit. trap_line_of numbers core summary.trap known fit.trap) 0 report.cores (omega (arith, is.few)) is.cores in
+    let of_ends = cores_belong Ends numbers 1 1048576 end_lines (λ core summary known fit. end_line_of numbers core summary.ending known fit.ending) 0 report.cores (omega (arith, is.few)) is.cores in
     let last : Tells (Last ∷ []) all (LastLine ∷ []) all = next_line Last [] all all [] small tt (at_last all) in
-    let of_ends : Tells after_traps all (Counted Ends ∷ LastLine ∷ []) all =
-    section_told Ends ends (Last ∷ []) all all (LastLine ∷ []) (λ e. let no : ⊥ = cc in no) small ends_fit.0
-    (cores_belong Ends numbers end_lines (λ core summary. end_belongs numbers core summary.ending) 0 report.cores (omega arith) (each_front FitsTypes ends (Last ∷ []) ends_fit.1)) last in
-    let of_traps : Tells after_notes all (Counted Traps ∷ Counted Ends ∷ LastLine ∷ []) all =
-    section_told Traps traps after_traps all all (Counted Ends ∷ LastLine ∷ []) (λ e. let no : ⊥ = cc in no) small traps_fit.0
-    (cores_belong Traps numbers trap_lines (λ core summary. trap_belongs numbers core summary.trap) 0 report.cores (omega arith) (each_front FitsTypes traps after_traps traps_fit.1)) of_ends in
-    let of_notes : Tells after_units all (Counted Calls ∷ Counted Traps ∷ Counted Ends ∷ LastLine ∷ []) all =
-    section_told Calls notes after_notes all all (Counted Traps ∷ Counted Ends ∷ LastLine ∷ []) (λ e. let no : ⊥ = cc in no) small notes_fit.0
-    (cores_belong Calls numbers note_lines (λ core summary. notes_belong numbers core summary.notes) 0 report.cores (omega arith) (each_front FitsTypes notes after_notes notes_fit.1)) of_traps in
+    let from_ends : Tells after_traps all (Counted Ends ∷ LastLine ∷ []) all =
+    section_told Ends ends (Last ∷ []) all all (LastLine ∷ []) (λ e. let no : ⊥ = cc in no) small (omega (arith, few, of_ends.few)) of_ends.each last in
+    let from_traps : Tells after_notes all (Counted Traps ∷ Counted Ends ∷ LastLine ∷ []) all =
+    section_told Traps traps after_traps all all (Counted Ends ∷ LastLine ∷ []) (λ e. let no : ⊥ = cc in no) small (omega (arith, few, of_traps.few)) of_traps.each from_ends in
+    let from_notes : Tells after_units all (Counted Calls ∷ Counted Traps ∷ Counted Ends ∷ LastLine ∷ []) all =
+    section_told Calls notes after_notes all all (Counted Traps ∷ Counted Ends ∷ LastLine ∷ []) (λ e. let no : ⊥ = cc in no) small (omega (arith, few, of_notes.few)) of_notes.each from_traps in
     let count : length units ≡ length report.units = length-map report.units (λ (unit : Marked). UnitOf unit.0 unit.1) in
-    let of_units : Tells (section_lines Units units ++ after_units) begun section_kinds all =
+    let within : numbers.cores * numbers.budget ≤ 8 * 1048576 = mul-le numbers.cores numbers.budget 8 1048576 ranges.cores.1 ranges.budget.1 in
+    let from_units : Tells (section_lines Units units ++ after_units) begun section_kinds all =
     next_line (Count Units (length units)) (units ++ after_units) begun all (Counted Calls ∷ Counted Traps ∷ Counted Ends ∷ LastLine ∷ []) small
-    (units_fit.0, (omega arith, omega (arith, count)))
+    (omega (arith, count, is.short, within), (omega arith, omega (arith, count, is.short)))
     (units_kept report.units after_units begun all (Counted Calls ∷ Counted Traps ∷ Counted Ends ∷ LastLine ∷ []) small
-    (units_in_range numbers report.units known (each_front FitsTypes units after_units units_fit.1)) of_notes) in
+    (units_in_range numbers report.units is.known is.units) from_notes) in
     let told : ℕ → ℕ → ℕ → ℕ → ℕ → Reported = λ a b c d e. record { numbers = record { cores = a; budget = b; limit = c; stack = d; heap = e }; order = [] } in
     let rest = section_lines Units units ++ after_units in
     next_line Version _ nothing all (header_kinds ++ section_kinds) (omega arith) tt
@@ -188,7 +210,9 @@ report_told report ranges known short few fit =
     (next_line (Header Budget numbers.budget) _ (told numbers.cores 0 0 0 0) all _ small ranges.budget
     (next_line (Header Limit numbers.limit) _ (told numbers.cores numbers.budget 0 0 0) all _ small ranges.limit
     (next_line (Header Stack numbers.stack) _ (told numbers.cores numbers.budget numbers.limit 0 0) all _ small ranges.stack
-    (next_line (Header Heap numbers.heap) rest (told numbers.cores numbers.budget numbers.limit numbers.stack 0) all section_kinds small (omega arith, ranges.heap) of_units)))))
+    (next_line (Header Heap numbers.heap) rest (told numbers.cores numbers.budget numbers.limit numbers.stack 0) all section_kinds small (omega arith, ranges.heap) from_units)))))
+
+-- ---- the report of a playable list
 
 playable_known : (s : Setup) (t : State) (order : List ℕ) → IsPlayableFrom s t order → AreKnown (core_count s) order
 unfolding IsPlayableFrom
@@ -199,16 +223,55 @@ length_marks : (units : List Marked) → length (marks_of units) ≡ length unit
 length_marks [] = refl
 length_marks (unit ∷ units) = ap suc (length_marks units)
 
+told_trap : (trap : Option Trap) → ((found : Trap) → trap ≡ Some found → IsTrapOfWords found) → IfSome trap IsTrapOfWords
+told_trap None all = tt
+told_trap (Some trap) all = all trap refl
+
+each_summary : (P : Summary → Type 0) (summary : ℕ → Summary) (first count : ℕ) → ((core : ℕ) → core < first + count → P (summary core)) → AllByRecursion P (map summary (range_with_len first count))
+each_summary P summary first zero all = tt
+each_summary P summary first (suc count) all = (all first (omega arith), each_summary P summary (first + 1) count (λ core below. all core (omega arith)))
+
+tellable : (s : Setup) → IsReportable s → (order : List ℕ) → IsPlayable s order → (core : ℕ) → core < core_count s → IsTellable 1048576 (summary_of ((along s order).cores core))
+tellable s basis order playable core known =
+    let at = at_along s basis.setup order playable in
+    let within = (at.reached).cores core in
+    let words = (words_along s (record { setup = basis.setup; bytes = basis.image }) order playable).state.cores core known in
+    record {
+      notes = words.notes;
+      few = omega (arith, within.notes, within.within, (basis.setup).most_budget);
+      trap = told_trap ((along s order).cores core).tags.trap words.trap;
+      ending = (words.local).ending;
+    }
+
+reported : (s : Setup) → IsReportable s → (order : List ℕ) → IsPlayable s order → IsReported (report_of s order)
+unfolding report_of
+reported s basis order playable =
+    let marks : marks_of (entries s order) ≡ order = marks_of_entries s (opening s) order in
+    let setup = basis.setup in
+    let image = setup.image in
+    record {
+      ranges = record {
+        cores = (image.some_cores, basis.cores);
+        budget = (setup.some_budget, setup.most_budget);
+        limit = (setup.some_limit, basis.limit);
+        stack = (image.some_stack, image.most_stack);
+        heap = image.most_heap;
+      };
+      known = subst (AreKnown (core_count s)) (sym marks) (playable_known s (opening s) order playable);
+      short = omega (arith, ap length marks, length_marks (entries s order), playable_short s setup order playable);
+      units = (words_along s (record { setup = setup; bytes = basis.image }) order playable).touches;
+      few = omega (arith, length-map-range_with_len (λ c. summary_of ((along s order).cores c)) 0 (core_count s));
+      cores = each_summary (IsTellable 1048576) (λ c. summary_of ((along s order).cores c)) 0 (core_count s) (λ core below. tellable s basis order playable core (omega arith));
+    }
+
+told_is : (s : Setup) (order : List ℕ) → ◌≡◌ {A = Reported} (record { numbers = (report_of s order).numbers; order = marks_of (report_of s order).units }) (record { numbers = numbers_of s; order = order })
+unfolding report_of
+told_is s order = ap (λ (cores : List ℕ). let all : Reported = record { numbers = numbers_of s; order = cores } in all) (marks_of_entries s (opening s) order)
+
 pub reads_back : ReadsBack
-unfolding text report_of saved_of
-reads_back s order ranges playable short fit =
-    let report = report_of s order in
-    let marks : marks_of report.units ≡ order = marks_of_entries s (opening s) order in
-    let told = report_told report ranges
-    (subst (AreKnown (core_count s)) (sym marks) (playable_known s (opening s) order playable))
-    (omega (arith, ap length marks, length_marks report.units, short))
-    (omega (arith, length-map-range_with_len (λ c. summary_of ((along s order).cores c)) 0 (core_count s)))
-    (each_from_all FitsTypes (lines_of report) fit) in
-    ap (λ (lines : List (List ℕ)). read lines 0 nothing (FirstLine ∷ (header_kinds ++ section_kinds))) (lines_back (lines_of report))
+unfolding text saved_of
+reads_back s order basis playable =
+    let told = report_told (report_of s order) (reported s basis order playable) in
+    ap (λ (lines : List (List ℕ)). read lines 0 nothing (FirstLine ∷ (header_kinds ++ section_kinds))) (lines_back (lines_of (report_of s order)))
     ∙ told.read_all 0
-    ∙ ap (λ (cores : List ℕ). Ok (let all : Reported = record { numbers = numbers_of s; order = cores } in all)) marks
+    ∙ ap (λ (all : Reported). Ok all) (told_is s order)
