@@ -14,11 +14,10 @@ use Rattle.inline_tracker.specs.Outcomes.{outcome_summary}
 use Rattle.inline_tracker.proofs.Lists.{map_twice}
 use Rattle.live_run.specs.declared.pair.Pair.{Pair}
 use Rattle.live_run.specs.declared.ends.Ends.{Ends}
-use Rattle.live_run.specs.declared.ends.Claims.{Claims}
+use Rattle.live_run.specs.declared.pair.Claims.{Claims}
 use Rattle.live_run.specs.declared.closing.Closed.{Closed}
 use Rattle.live_run.specs.Assembled.{CoreLeft, IsCoreLeft, StandsIn, AreAssembled}
 use Rattle.live_run.specs.Pairs.{left_in_pair}
-use Rattle.live_run.specs.Ends.{outcome_in, claims_in}
 use Rattle.live_run.specs.Laying.{laid, LiesWithin, pieces_in, pieces_of, AreLayable}
 use Rattle.live_run.specs.Closing.{AreReady, IsClosedRun}
 use Rattle.live_run.proofs.Spans.{all_append}
@@ -34,16 +33,16 @@ module _ (s : Setup) (pairs : List Pair) (memory tags : TableSeen) (ends : Ends)
     (words : List ℕ) (history : List Change) (closes : Closes memory.basis (map (λ pair. pair.drawn) pairs) words history)
     (tag_words : List ℕ) (tag_history : List Change) (tags_closes : Closes tags.basis (map (λ pair. pair.served) pairs) tag_words tag_history) where
   abbrev pub bytes : List ℕ
-  bytes = laid (replicate (payload_of (slice_index words OUTPUT_WORD)) 0) (pieces_of (map claims_in pairs))
+  bytes = laid (replicate (payload_of (slice_index words OUTPUT_WORD)) 0) (pieces_of (map (λ pair. pair.claims) pairs))
 
-  within : AllByRecursion (LiesWithin (length (replicate {A = ℕ} (payload_of (slice_index words OUTPUT_WORD)) 0))) (pieces_of (map claims_in pairs))
+  within : AllByRecursion (LiesWithin (length (replicate {A = ℕ} (payload_of (slice_index words OUTPUT_WORD)) 0))) (pieces_of (map (λ pair. pair.claims) pairs))
   within =
       rw (length-replicate {A = ℕ} (payload_of (slice_index words OUTPUT_WORD)) 0)
-      (all_within (payload_of (slice_index words OUTPUT_WORD)) (map claims_in pairs) (are_layable s pairs memory tags ends output ready words history closes))
+      (all_within (payload_of (slice_index words OUTPUT_WORD)) (map (λ pair. pair.claims) pairs) (are_layable s pairs memory tags ends output ready words history closes))
 
-  stand : AllByRecursion (StandsIn bytes) (pieces_of (map claims_in pairs))
+  stand : AllByRecursion (StandsIn bytes) (pieces_of (map (λ pair. pair.claims) pairs))
   stand =
-      laid_stands (replicate (payload_of (slice_index words OUTPUT_WORD)) 0) (pieces_of (map claims_in pairs)) within (are_apart s pairs memory tags ends output ready words history closes)
+      laid_stands (replicate (payload_of (slice_index words OUTPUT_WORD)) 0) (pieces_of (map (λ pair. pair.claims) pairs)) within (are_apart s pairs memory tags ends output ready words history closes)
 
   pair_stands : (core : ℕ) (pair : Pair) → slice_get pairs core ≡ Some pair
       → IsCoreLeft s memory tags core (of_caller core history) (of_caller core tag_history) (left_in_pair pair) × All (StandsIn bytes) (left_in_pair pair).claims
@@ -52,8 +51,8 @@ module _ (s : Setup) (pairs : List Pair) (memory tags : TableSeen) (ends : Ends)
       of_pair s pairs memory tags ends output ready words history closes core pair here,
       changes_at tags (λ p. p.served) pairs tag_words tag_history (λ c p at. (ready.left c p at).served) tags_closes core pair here,
     ) (ready.left core pair here).left,
-    All-from_recursion (StandsIn bytes) (pieces_in (claims_in pair))
-        (of_core (StandsIn bytes) (map claims_in pairs) core (claims_in pair) (here_map claims_in pairs core pair here) stand),
+    All-from_recursion (StandsIn bytes) (pieces_in pair.claims)
+        (of_core (StandsIn bytes) (map (λ pair. pair.claims) pairs) core pair.claims (here_map (λ (pair : Pair). pair.claims) pairs core pair here) stand),
   )
 
   core_stands : (core : ℕ) (part : CoreLeft) → slice_get (map left_in_pair pairs) core ≡ Some part
@@ -71,7 +70,7 @@ module _ (s : Setup) (pairs : List Pair) (memory tags : TableSeen) (ends : Ends)
     count = length-map pairs left_in_pair ∙ ready.count;
     cores = core_stands;
     size =
-        laid_length (replicate (payload_of (slice_index words OUTPUT_WORD)) 0) (pieces_of (map claims_in pairs)) within
+        laid_length (replicate (payload_of (slice_index words OUTPUT_WORD)) 0) (pieces_of (map (λ pair. pair.claims) pairs)) within
         ∙ length-replicate (payload_of (slice_index words OUTPUT_WORD)) 0 ∙ size_is s pairs memory tags ends output ready words history closes;
   }
 
@@ -82,6 +81,6 @@ module _ (s : Setup) (pairs : List Pair) (memory tags : TableSeen) (ends : Ends)
     logs = ap (λ list. map (λ log. log.items) list.items) logs ∙ ap (λ (e : Ends). map (λ log. log.items) e.logs.items) ready.ends_are
         ∙ map_twice (λ log. log.items) (λ (pair : Pair). pair.entries) pairs ∙ sym (map_twice (λ (part : CoreLeft). part.log) left_in_pair pairs);
     outcomes = ap (λ list. map outcome_summary list.items) outcomes ∙ ap (λ (e : Ends). map outcome_summary e.outcomes.items) ready.ends_are
-        ∙ map_twice outcome_summary outcome_in pairs ∙ sym (map_twice (λ (part : CoreLeft). part.summary) left_in_pair pairs);
+        ∙ map_twice outcome_summary (λ (pair : Pair). pair.outcome) pairs ∙ sym (map_twice (λ (part : CoreLeft). part.summary) left_in_pair pairs);
     assembled = rw out assembled;
   }

@@ -18,7 +18,7 @@ use Rattle.live_run.specs.declared.pair.Pair.{Pair}
 use Rattle.live_run.specs.declared.ends.Ends.{Ends}
 use Rattle.live_run.specs.Seats.{IsSeat}
 use Rattle.live_run.specs.Pairs.{IsPairLeft, left_in_pair, left_by}
-use Rattle.live_run.specs.Ends.{AreAllLinked, outcome_in, claims_in, kept, ends_of, AreKept, ArePairsLeft}
+use Rattle.live_run.specs.Ends.{AreAllLinked, kept, ends_of, AreKept, ArePairsLeft}
 
 -- ---- the first of what is left of a list
 
@@ -102,7 +102,7 @@ module _ (harts : List Hart) (followers : List TagActorSeen) (items : List (Ring
   -- the lists with one pair more
   ends_more : (pairs : List Pair) (pair : Pair) → kept (ends_of (length harts) pairs) pair ≡ ends_of (length harts) (pairs ++ pair ∷ [])
   ends_more pairs pair =
-      rw (map-append (λ (p : Pair). p.entries) pairs (pair ∷ []), map-append outcome_in pairs (pair ∷ []), map-append claims_in pairs (pair ∷ []), map-append (λ (p : Pair). p.drawn) pairs (pair ∷ []), map-append (λ (p : Pair). p.served) pairs (pair ∷ [])) refl
+      rw (map-append (λ (p : Pair). p.entries) pairs (pair ∷ []), map-append (λ (p : Pair). p.outcome) pairs (pair ∷ []), map-append (λ (p : Pair). p.claims) pairs (pair ∷ []), map-append (λ (p : Pair). p.drawn) pairs (pair ∷ []), map-append (λ (p : Pair). p.served) pairs (pair ∷ [])) refl
 
   pub going_more : (harts_left : List Hart) (followers_left : List TagActorSeen) (items_left : List (Ring Record)) (replies_left : List (Lane Reply)) (ends : Ends)
       (hart : Hart) (follower : TagActorSeen) (ring : Ring Record) (lane : Lane Reply)

@@ -4,7 +4,7 @@ use Rattle.std.specs.Prelude.{slice_index_or}
 use Rattle.std.specs.List.{AllByRecursion}
 use Rattle.std.proofs.Math.Seq.{drop-cons}
 use Rattle.bounded_list.specs.Bounded.{Bounded}
-use Rattle.live_run.specs.declared.ends.Claims.{Claims}
+use Rattle.live_run.specs.declared.pair.Claims.{Claims}
 use Rattle.live_run.specs.Laying.{laid, pieces_in, pieces_of, AreLayable}
 use Rattle.live_run.proofs.Laying.{laid_length, laid_append}
 

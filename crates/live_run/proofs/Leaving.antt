@@ -61,13 +61,9 @@ met h t hart tagger items_left replies_left leaves left items replies_all =
 -- the parts of a pair, as its function puts them together
 abbrev pub pair_of : HartParts → TagParts → Pair
 pair_of hart tagger = record {
-  end = hart.end;
-  units = hart.units;
-  trap = tagger.trap;
   entries = hart.entries;
-  notes = hart.notes;
-  output = hart.output;
-  pieces = hart.pieces;
+  outcome = record { end = hart.end; units = hart.units; trap = tagger.trap; notes = hart.notes };
+  claims = record { output = hart.output; pieces = hart.pieces };
   drawn = hart.pass;
   served = tagger.pass;
 }

@@ -3,7 +3,7 @@ use Rattle.std.proofs.Common.{◌≡◌, ◌≢◌, ℕ, zero, suc, ◌+◌, ◌
 use Rattle.std.specs.List.{AllByRecursion}
 use Rattle.std.proofs.lemmas.List.{map-append}
 use Rattle.syscall_drain.specs.Pieces.{Piece}
-use Rattle.live_run.specs.declared.ends.Claims.{Claims}
+use Rattle.live_run.specs.declared.pair.Claims.{Claims}
 use Rattle.live_run.specs.Laying.{LiesWithin, LieApart, AreApart, pieces_in, pieces_of}
 use Rattle.live_run.proofs.Claiming.{piece_span}
 use Rattle.live_run.proofs.Spans.{EndsBy, SpansApart, AllApart, EachApart, all_split, apart_none, apart_right, each_append}

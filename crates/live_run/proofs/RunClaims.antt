@@ -17,9 +17,8 @@ use Rattle.syscall_drain.specs.Pieces.{Piece}
 use Rattle.machine.specs.Setups.{Setup, core_count}
 use Rattle.live_run.specs.declared.pair.Pair.{Pair}
 use Rattle.live_run.specs.declared.ends.Ends.{Ends}
-use Rattle.live_run.specs.declared.ends.Claims.{Claims}
+use Rattle.live_run.specs.declared.pair.Claims.{Claims}
 use Rattle.live_run.specs.Pairs.{IsPassAt, left_in_pair}
-use Rattle.live_run.specs.Ends.{claims_in}
 use Rattle.live_run.specs.Laying.{AreApart, pieces_in, pieces_of, AreLayable}
 use Rattle.live_run.specs.Closing.{AreReady}
 use Rattle.live_run.proofs.Claiming.{IsClaim, piece_span}
@@ -123,7 +122,7 @@ module _ (s : Setup) (pairs : List Pair) (memory tags : TableSeen) (ends : Ends)
     pub of_pair : (core : ℕ) (pair : Pair) → slice_get pairs core ≡ Some pair → of_caller core history ≡ pair.drawn.changes
     of_pair core pair here = changes_at memory (λ p. p.drawn) pairs words history drawn_at closes core pair here
 
-    claims_at : (core : ℕ) (pair : Pair) → slice_get pairs core ≡ Some pair → AreClaimsOf s memory.basis.terms.limit (of_caller core history) (pieces_in (claims_in pair))
+    claims_at : (core : ℕ) (pair : Pair) → slice_get pairs core ≡ Some pair → AreClaimsOf s memory.basis.terms.limit (of_caller core history) (pieces_in pair.claims)
     claims_at core pair here =
         rw (of_pair core pair here) (core_claims s memory tags core pair.drawn.changes pair.served.changes (left_in_pair pair) (ready.setup).some_budget (ready.left core pair here).left)
 
@@ -135,7 +134,7 @@ module _ (s : Setup) (pairs : List Pair) (memory tags : TableSeen) (ends : Ends)
     caller_claims : (core : ℕ) → core < memory.basis.terms.callers → HasClaims core
     caller_claims core below =
         let found = some_at pairs core (omega (arith, ready.count, callers, below)) in
-        record { pieces = pieces_in (claims_in found.0); are = claims_at core found.0 found.1 }
+        record { pieces = pieces_in (found.0).claims; are = claims_at core found.0 found.1 }
 
     few : all_claimed memory.basis draws history ≤ 4 * (core_count s * s.budget)
     few =
@@ -162,16 +161,16 @@ module _ (s : Setup) (pairs : List Pair) (memory tags : TableSeen) (ends : Ends)
     pub size_fits : payload_of (slice_index words OUTPUT_WORD) ≤ output.room
     size_fits = rw ready.room (omega (arith, size_is, are_spaced.size, few))
 
-    pub are_layable : AllByRecursion (AreLayable (payload_of (slice_index words OUTPUT_WORD))) (map claims_in pairs)
+    pub are_layable : AllByRecursion (AreLayable (payload_of (slice_index words OUTPUT_WORD))) (map (λ pair. pair.claims) pairs)
     are_layable =
-        rw size_is (all_by_place claims_in (AreLayable (left memory.basis draws history)) pairs (λ core pair here. record {
+        rw size_is (all_by_place (λ (pair : Pair). pair.claims) (AreLayable (left memory.basis draws history)) pairs (λ core pair here. record {
           whole = (ready.left core pair here).whole;
-          within = within_by (left memory.basis draws history) (pieces_in (claims_in pair)) (rw (claims_at core pair here).same (are_spaced.ends core));
+          within = within_by (left memory.basis draws history) (pieces_in pair.claims) (rw (claims_at core pair here).same (are_spaced.ends core));
         }))
 
-    pub are_apart : AreApart (pieces_of (map claims_in pairs))
+    pub are_apart : AreApart (pieces_of (map (λ pair. pair.claims) pairs))
     are_apart =
-        pieces_apart (claimed memory.basis draws history) are_spaced.own are_spaced.others (map claims_in pairs)
+        pieces_apart (claimed memory.basis draws history) are_spaced.own are_spaced.others (map (λ pair. pair.claims) pairs)
         (λ core claims at.
-        let found = found_map claims_in pairs core claims at in
+        let found = found_map (λ (pair : Pair). pair.claims) pairs core claims at in
         ap (λ (c : Claims). map piece_span (pieces_in c)) found.made ∙ (claims_at core found.item found.here).same)

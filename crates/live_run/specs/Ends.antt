@@ -7,11 +7,9 @@ use Rattle.record_lane.specs.declared.ring.Ring.{Ring}
 use Rattle.record_lane.specs.declared.lane.Lane.{Lane}
 use Rattle.ticket_table.specs.Passes.{TableSeen}
 use Rattle.machine.specs.Setups.{Setup}
-use Rattle.inline_tracker.specs.declared.finished.CoreOutcome.{CoreOutcome}
 use Rattle.hart_actor.specs.Harts.{Hart}
 use Rattle.tag_actor.specs.Seen.{TagActorSeen}
 use Rattle.live_run.specs.declared.pair.Pair.{Pair}
-use Rattle.live_run.specs.declared.ends.Claims.{Claims}
 use Rattle.live_run.specs.declared.ends.Ends.{Ends}
 use Rattle.live_run.specs.Seats.{AreSeats}
 use Rattle.live_run.specs.Assembled.{CoreLeft}
@@ -25,12 +23,6 @@ pub record AreAllLinked (harts : List Hart) (followers : List TagActorSeen) (ite
   pub links : (core : ℕ) (hart : Hart) (follower : TagActorSeen) (ring : Ring Record) (lane : Lane Reply)
       → slice_get harts core ≡ Some hart → slice_get followers core ≡ Some follower → slice_get items core ≡ Some ring → slice_get replies core ≡ Some lane
       → AreLinked hart follower ring lane
-
-abbrev pub outcome_in : Pair → CoreOutcome
-outcome_in pair = record { end = pair.end; units = pair.units; trap = pair.trap; notes = pair.notes }
-
-abbrev pub claims_in : Pair → Claims
-claims_in pair = record { output = pair.output; pieces = pair.pieces }
 
 -- each list has room for one item more
 pub record HasRoom (ends : Ends) : Type 0 where
@@ -47,8 +39,8 @@ with_item list item = record list { items = list.items ++ item ∷ [] }
 abbrev pub kept : Ends → Pair → Ends
 kept ends pair = record {
   logs = with_item ends.logs pair.entries;
-  outcomes = with_item ends.outcomes (outcome_in pair);
-  claims = with_item ends.claims (claims_in pair);
+  outcomes = with_item ends.outcomes pair.outcome;
+  claims = with_item ends.claims pair.claims;
   drawn = with_item ends.drawn pair.drawn;
   served = with_item ends.served pair.served;
 }
@@ -57,8 +49,8 @@ kept ends pair = record {
 abbrev pub ends_of : ℕ → List Pair → Ends
 ends_of room pairs = record {
   logs = record { items = map (λ pair. pair.entries) pairs; room = room };
-  outcomes = record { items = map outcome_in pairs; room = room };
-  claims = record { items = map claims_in pairs; room = room };
+  outcomes = record { items = map (λ pair. pair.outcome) pairs; room = room };
+  claims = record { items = map (λ pair. pair.claims) pairs; room = room };
   drawn = record { items = map (λ pair. pair.drawn) pairs; room = room };
   served = record { items = map (λ pair. pair.served) pairs; room = room };
 }

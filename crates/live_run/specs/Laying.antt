@@ -1,10 +1,10 @@
--- Pieces of output put at their places, one after another (this project's own).
+-- Proof form: pieces of output put at their places, one after another.
 use Rattle.std.specs.Prelude.{◌≡◌, ◌⊎◌, ℕ, ◌+◌, ◌≤◌, List, [], ◌∷◌, ◌++◌, length}
 use Rattle.std.specs.List.{AllByRecursion}
 use Rattle.bounded_list.specs.Bounded.{overwritten}
 use Rattle.syscall_drain.specs.Pieces.{Piece}
 use Rattle.hart_actor.specs.Harts.{cut, cut_length}
-use Rattle.live_run.specs.declared.ends.Claims.{Claims}
+use Rattle.live_run.specs.declared.pair.Claims.{Claims}
 
 -- the bytes after all pieces are put down
 unfoldable pub laid : List ℕ → List Piece → List ℕ

@@ -1,5 +1,5 @@
 -- What the two actors of one core leave, once both have ended (this project's own).
-use Rattle.std.specs.Prelude.{◌≡◌, ℕ, Some, length}
+use Rattle.std.specs.Prelude.{◌≡◌, ℕ, length, true}
 use Rattle.record_lane.specs.declared.record.Record.{Record}
 use Rattle.record_lane.specs.declared.reply.Reply.{Reply}
 use Rattle.record_lane.specs.declared.ring.Ring.{Ring}
@@ -8,10 +8,12 @@ use Rattle.record_lane.specs.Rings.{IsSenderOf as IsItemSender, IsTakerOf as IsI
 use Rattle.record_lane.specs.Lanes.{IsSenderOf as IsReplySender, IsTakerOf as IsReplyTaker}
 use Rattle.ticket_table.specs.Passes.{TableSeen, PassSeen, IsPassOf}
 use Rattle.machine.specs.Setups.{Setup}
-use Rattle.hart_actor.specs.Harts.{Hart, cut, cut_length}
+use Rattle.inline_tracker.specs.Outcomes.{outcome_summary}
+use Rattle.hart_actor.specs.Harts.{Hart, HasEnded, cut, cut_length}
 use Rattle.tag_actor.specs.Seen.{TagActorSeen}
 use Rattle.live_run.specs.declared.pair.Pair.{Pair}
 use Rattle.live_run.specs.Assembled.{CoreLeft, IsCoreLeft}
+use Rattle.live_run.specs.Laying.{pieces_in}
 
 -- the ring and the lane are those of both actors
 pub record AreLinked (hart : Hart) (follower : TagActorSeen) (items : Ring Record) (replies : Lane Reply) : Type 0 where
@@ -20,12 +22,18 @@ pub record AreLinked (hart : Hart) (follower : TagActorSeen) (items : Ring Recor
   pub reply_sender : IsReplySender replies follower.sender
   pub reply_taker : IsReplyTaker replies hart.taker
 
+-- both have ended, and the ring and the lane are theirs
+pub record AreDone (hart : Hart) (follower : TagActorSeen) (items : Ring Record) (replies : Lane Reply) : Type 0 where
+  pub hart_ended : HasEnded hart
+  pub follower_ended : follower.ended ≡ true
+  pub linked : AreLinked hart follower items replies
+
 -- the core's part of the run
 abbrev pub left_in_pair : Pair → CoreLeft
 left_in_pair pair = record {
   log = pair.entries.items;
-  summary = record { ending = Some pair.end; units = pair.units; trap = pair.trap; notes = pair.notes.items };
-  claims = cut pair.pieces.items pair.output.items;
+  summary = outcome_summary pair.outcome;
+  claims = pieces_in pair.claims;
 }
 
 -- and as its two actors have kept it
@@ -46,4 +54,4 @@ pub record IsPairLeft (s : Setup) (memory tags : TableSeen) (core : ℕ) (pair :
   pub left : IsCoreLeft s memory tags core pair.drawn.changes pair.served.changes (left_in_pair pair)
   pub drawn : IsPassAt memory core pair.drawn
   pub served : IsPassAt tags core pair.served
-  pub whole : cut_length pair.pieces.items ≡ length pair.output.items
+  pub whole : cut_length pair.claims.pieces.items ≡ length pair.claims.output.items

@@ -4,22 +4,15 @@ ghost use Rattle.hart_actor.specs.Harts.{Hart};
 ghost use Rattle.live_run.specs.Seats.{HaveEnded};
 ghost use Rattle.live_run.specs.Ends.{AreAllLinked, HasRoom, kept, ends_of, HaveFinished};
 
-use crate::pair::{Pair, finish_pair};
+use crate::pair::{Claims, Pair, finish_pair};
 use bounded_list::{BoundedList, NoMemory};
 use hart_actor::HartActor;
 use inline_tracker::CoreOutcome;
-use order_core::{Bytes, CoreLog, Pieces};
+use order_core::CoreLog;
 use record_lane::{Lane, Record, Reply, Ring};
 use std::alloc::Global;
 use tag_actor::TagActor;
 use ticket_table::Pass;
-
-/// The output of one core: its pieces, each a place in the output of all cores and a length, and their bytes end to end.
-#[derive(Drop)]
-pub(crate) struct Claims {
-    pub output: Bytes,
-    pub pieces: Pieces,
-}
 
 /// The logs, the outcomes, the outputs and the passes of the cores, in their order.
 #[derive(Drop)]
@@ -51,24 +44,15 @@ impl Ends {
         ensures { self.new ≡ kept self.old pair }
     {
         let Pair {
-            end,
-            units,
-            trap,
             entries,
-            notes,
-            output,
-            pieces,
+            outcome,
+            claims,
             drawn,
             served,
         } = pair;
         self.logs.push(entries);
-        self.outcomes.push(CoreOutcome {
-            end,
-            units,
-            trap,
-            notes,
-        });
-        self.claims.push(Claims { output, pieces });
+        self.outcomes.push(outcome);
+        self.claims.push(claims);
         self.drawn.push(drawn);
         self.served.push(served);
     }

@@ -3,7 +3,7 @@ ghost use Rattle.std.specs.Prelude.{◌≡◌, ◌≤◌, [], length, replicate}
 ghost use Rattle.std.specs.List.{AllByRecursion};
 ghost use Rattle.live_run.specs.Laying.{laid, pieces_in, pieces_of, AreLayable};
 
-use crate::ends::Claims;
+use crate::pair::Claims;
 use order_core::Bytes;
 
 /// Makes the output so many bytes long.

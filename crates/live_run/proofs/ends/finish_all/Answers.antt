@@ -5,29 +5,17 @@ use Rattle.live_run.proofs.ends.finish_all.Goals as goal
 pub loop-harts-init : goal.loop-harts-init
 loop-harts-init c = going_first _ _ _ _ _ c.requires.room
 
-pub finish_pair-pair-requires-clause-hart : goal.finish_pair-pair-requires-clause-hart
-finish_pair-pair-requires-clause-hart c =
+pub finish_pair-pair-requires : goal.finish_pair-pair-requires
+finish_pair-pair-requires c =
     let some : 0 < length c.loop-harts.harts.items = omega arith in
     let next = next_ones _ _ _ _ c.requires.linked _ _ _ _ _ _ _ _ _ _ _ _ _ c.loop-harts.invariant some
     (c.remove.ensures.value, c.remove.ensures.items) (c.remove-in-loop-harts.ensures.value, c.remove-in-loop-harts.ensures.items)
     (c.remove-in-loop-harts-2.ensures.value, c.remove-in-loop-harts-2.ensures.items) (c.remove-in-loop-harts-3.ensures.value, c.remove-in-loop-harts-3.ensures.items) in
-    c.requires.ended.harts _ _ (next.hart).here
-
-pub finish_pair-pair-requires-clause-follower : goal.finish_pair-pair-requires-clause-follower
-finish_pair-pair-requires-clause-follower c =
-    let some : 0 < length c.loop-harts.harts.items = omega arith in
-    let next = next_ones _ _ _ _ c.requires.linked _ _ _ _ _ _ _ _ _ _ _ _ _ c.loop-harts.invariant some
-    (c.remove.ensures.value, c.remove.ensures.items) (c.remove-in-loop-harts.ensures.value, c.remove-in-loop-harts.ensures.items)
-    (c.remove-in-loop-harts-2.ensures.value, c.remove-in-loop-harts-2.ensures.items) (c.remove-in-loop-harts-3.ensures.value, c.remove-in-loop-harts-3.ensures.items) in
-    c.requires.ended.followers _ _ (next.follower).here
-
-pub finish_pair-pair-requires-clause-linked : goal.finish_pair-pair-requires-clause-linked
-finish_pair-pair-requires-clause-linked c =
-    let some : 0 < length c.loop-harts.harts.items = omega arith in
-    let next = next_ones _ _ _ _ c.requires.linked _ _ _ _ _ _ _ _ _ _ _ _ _ c.loop-harts.invariant some
-    (c.remove.ensures.value, c.remove.ensures.items) (c.remove-in-loop-harts.ensures.value, c.remove-in-loop-harts.ensures.items)
-    (c.remove-in-loop-harts-2.ensures.value, c.remove-in-loop-harts-2.ensures.items) (c.remove-in-loop-harts-3.ensures.value, c.remove-in-loop-harts-3.ensures.items) in
-    c.requires.linked.links _ _ _ _ _ (next.hart).here (next.follower).here (next.item).here (next.reply).here
+    record {
+      hart_ended = c.requires.ended.harts _ _ (next.hart).here;
+      follower_ended = c.requires.ended.followers _ _ (next.follower).here;
+      linked = c.requires.linked.links _ _ _ _ _ (next.hart).here (next.follower).here (next.item).here (next.reply).here;
+    }
 
 pub loop-harts-preserved : goal.loop-harts-preserved
 loop-harts-preserved c =
