@@ -9,7 +9,7 @@ use Rattle.record_lane.specs.declared.record.Record.{Record}
 use Rattle.record_lane.specs.declared.reply.Reply.{Reply}
 use Rattle.record_lane.specs.declared.ring.Ring.{Ring}
 use Rattle.record_lane.specs.declared.lane.Lane.{Lane}
-use Rattle.record_lane.specs.Rings.{word_count_of, top_of, IsSenderOf as SendsToRing, IsTakerOf as TakesFromRing}
+use Rattle.record_lane.specs.Rings.{bound_of as ring_bound, word_count_of, top_of, IsSenderOf as SendsToRing, IsTakerOf as TakesFromRing}
 use Rattle.record_lane.specs.Lanes.{bound_of, IsSenderOf as SendsToLane, IsTakerOf as TakesFromLane}
 use Rattle.ticket_table.specs.History.{Basis}
 use Rattle.ticket_table.specs.Passes.{PassSeen, TableSeen, IsPassOf, fresh, fresh_from}
@@ -22,7 +22,7 @@ use Rattle.tag_actor.specs.Turns.{AreOf as AreOfTagger}
 use Rattle.live_run.specs.declared.opening.Seat.{Seat}
 use Rattle.live_run.specs.declared.opening.Seats.{Seats}
 use Rattle.live_run.specs.Seats.{AreTables, AreSeats, IsSeat}
-use Rattle.live_run.specs.Beginnings.{IsNewHart, IsNewFollower, AreFirstSeats}
+use Rattle.live_run.specs.Beginnings.{IsNewHart, IsNewFollower, HaveBound, AreFirstSeats}
 
 -- ---- passes
 
@@ -138,6 +138,12 @@ seats_more s memory tags count old new seat so_far is is_new harts followers ite
           ← last old.replies.items seat.replies lane core count so_far.reply_count same (rw replies at lane_at),
         ) is)
         (get_at_end old.harts.items seat.hart hart core (rw harts at hart_at))
+
+pub bound_more : (bound : ℕ) (old new : List (Ring Record)) (ring : Ring Record) → HaveBound bound old → ring_bound ring ≡ bound → new ≡ old ++ ring ∷ [] → HaveBound bound new
+bound_more bound old new ring so_far is more core other at = ⊎_elim
+    (λ earlier. so_far core other earlier)
+    (λ last. rw (← last.1) is)
+    (get_at_end old ring other core (rw more at at))
 
 pub are_seats : (s : Setup) (memory tags : TableSeen) (seats : Seats) → AreFirstSeats s memory tags (core_count s) seats → AreSeats s memory tags seats.harts.items seats.followers.items seats.items.items seats.replies.items
 are_seats s memory tags seats first = record {

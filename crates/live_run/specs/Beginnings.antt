@@ -4,7 +4,7 @@ use Rattle.record_lane.specs.declared.record.Record.{Record}
 use Rattle.record_lane.specs.declared.reply.Reply.{Reply}
 use Rattle.record_lane.specs.declared.ring.Ring.{Ring}
 use Rattle.record_lane.specs.declared.lane.Lane.{Lane}
-use Rattle.record_lane.specs.Rings.{sent_by as sent_to_ring, taken_by as taken_from_ring}
+use Rattle.record_lane.specs.Rings.{bound_of, sent_by as sent_to_ring, taken_by as taken_from_ring}
 use Rattle.record_lane.specs.Lanes.{sent_by as sent_to_lane, taken_by as taken_from_lane}
 use Rattle.ticket_table.specs.Passes.{TableSeen, fresh_from}
 use Rattle.syscall_drain.specs.Locals.{opening_local}
@@ -36,6 +36,10 @@ pub record IsNewFollower (s : Setup) (follower : TagActorSeen) : Type 0 where
 pub record AreNew (s : Setup) (all_harts : List Hart) (all_followers : List TagActorSeen) : Type 0 where
   pub harts : (core : ℕ) (hart : Hart) → slice_get all_harts core ≡ Some hart → IsNewHart s core hart
   pub followers : (core : ℕ) (follower : TagActorSeen) → slice_get all_followers core ≡ Some follower → IsNewFollower s follower
+
+-- each ring holds at most so many records
+abbrev pub HaveBound : ℕ → List (Ring Record) → Type 0
+HaveBound bound items = (core : ℕ) (ring : Ring Record) → slice_get items core ≡ Some ring → bound_of ring ≡ bound
 
 -- the tables are the setup's, and have the fresh passes of the cores from this one on
 pub record HavePasses (s : Setup) (core : ℕ) (tables : Tables) : Type 0 where

@@ -1,8 +1,9 @@
 //! The actors of a new run, core by core.
 ghost use Rattle.std.specs.Prelude.{◌≡◌, ◌+◌, ◌<◌, ◌≤◌, [], ◌∷◌, ◌++◌, IfOk, OnOk};
 ghost use Rattle.machine.specs.Setups.{core_count};
+ghost use Rattle.record_lane.specs.Rings.{bound_of};
 ghost use Rattle.live_run.specs.Seats.{IsSeat};
-ghost use Rattle.live_run.specs.Beginnings.{IsNewHart, IsNewFollower, HavePasses, AreFirstSeats};
+ghost use Rattle.live_run.specs.Beginnings.{IsNewHart, IsNewFollower, HaveBound, HavePasses, AreFirstSeats};
 
 use crate::tables::Tables;
 use hart_actor::HartActor;
@@ -45,6 +46,7 @@ fn first_seat(
     ensures tables { OnOk result ((tables.new.memory ≡ tables.old.memory) × (tables.new.tags ≡ tables.old.tags)) }
     ensures seat { IfOk result (λ seat. IsSeat setup.now tables.old.memory tables.old.tags core seat.hart seat.follower seat.items seat.replies) }
     ensures new { IfOk result (λ seat. IsNewHart setup.now core seat.hart × IsNewFollower setup.now seat.follower) }
+    ensures bound { IfOk result (λ seat. bound_of seat.items ≡ bound) }
 {
     let guest = setup.guest();
     let words = guest.image().words();
@@ -114,6 +116,7 @@ pub(crate) fn first_seats(
     requires passes { HavePasses setup.now 0 tables.old }
     ensures tables { OnOk result ((tables.new.memory ≡ tables.old.memory) × (tables.new.tags ≡ tables.old.tags)) }
     ensures seats { IfOk result (AreFirstSeats setup.now tables.old.memory tables.old.tags (core_count setup.now)) }
+    ensures bound { IfOk result (λ seats. HaveBound bound seats.items.items) }
 {
     let mut seats = Seats::none(alloc);
     for core in 0..setup.guest().image().cores() {

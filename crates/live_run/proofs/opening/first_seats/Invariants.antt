@@ -1,5 +1,5 @@
 use Rattle.std.proofs.Common.{◌≡◌}
-use Rattle.live_run.specs.Beginnings.{HavePasses, AreFirstSeats}
+use Rattle.live_run.specs.Beginnings.{HaveBound, HavePasses, AreFirstSeats}
 use Rattle.live_run.proofs.opening.first_seats.Given as goal
 
 abbrev pub invariant-loop-core : goal.invariant-loop-core
@@ -8,4 +8,5 @@ invariant-loop-core l = record {
   memory : l.tables.memory ≡ l.fn.tables.memory;
   tags : l.tables.tags ≡ l.fn.tables.tags;
   seats : AreFirstSeats l.setup l.fn.tables.memory l.fn.tables.tags l.core l.seats;
+  bound : HaveBound l.fn.bound l.seats.items.items;
 }
