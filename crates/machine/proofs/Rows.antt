@@ -31,7 +31,8 @@ use Rattle.machine.specs.Setups.{Setup}
 use Rattle.machine.specs.Steps.{core_given, touched, quiet, took, left, step}
 use Rattle.machine.specs.Runs.{run, along, log_along, entry_at, entries_from}
 use Rattle.machine.specs.Outcomes.{summaries, output, status_class}
-use Rattle.machine.proofs.Images.{image_of, hi_words, lrsc_words, count_words, jump_words, pass_words, odd_words, beside_words}
+use Rattle.guest_images.specs.Files.{small_image}
+use Rattle.guest_images.specs.declared.programs.TheConstants.{HI, LRSC, COUNT, JUMP, PASS, ODD, BYTE_JUMP}
 
 -- the standard rules, and those with the check on the output alone
 abbrev check_sink : Rules
@@ -39,7 +40,7 @@ check_sink = record standard_rules { check_jump = false; check_call_number = fal
 
 abbrev setup_of : Version → List ℕ → List ℕ → Rules → ℕ → ℕ → ℕ → Setup
 setup_of version words input rules cores budget limit = record {
-  program = record { layout = record { bytes = image_of words; cores = cores; stack = 16; heap = 256 }; input = input };
+  program = record { layout = record { bytes = small_image words; cores = cores; stack = 16; heap = 256 }; input = input };
   policy = record { version = version; rules = rules ∷ [] };
   budget = budget;
   limit = limit;
@@ -92,27 +93,27 @@ note step pc call = record { step = step; pc = pc; call = call; kind = Call; tag
 
 -- the programs with their inputs
 abbrev hi : Setup
-hi = usual hi_words []
+hi = usual HI []
 
 abbrev lrsc : Setup
-lrsc = setup lrsc_words [] standard_rules 2 1048576 4294967280
+lrsc = setup LRSC [] standard_rules 2 1048576 4294967280
 
 abbrev jump : ℕ → Setup
-jump budget = setup jump_words (0x20 ∷ 0 ∷ 1 ∷ 0 ∷ []) standard_rules 1 budget 4294967280
+jump budget = setup JUMP (0x20 ∷ 0 ∷ 1 ∷ 0 ∷ []) standard_rules 1 budget 4294967280
 
 abbrev pass : Setup
-pass = setup pass_words (97 ∷ 98 ∷ 99 ∷ 100 ∷ []) check_sink 1 1048576 4294967280
+pass = setup PASS (97 ∷ 98 ∷ 99 ∷ 100 ∷ []) check_sink 1 1048576 4294967280
 
 abbrev odd : Setup
-odd = usual odd_words (65 ∷ 66 ∷ 67 ∷ 68 ∷ 69 ∷ [])
+odd = usual ODD (65 ∷ 66 ∷ 67 ∷ 68 ∷ 69 ∷ [])
 
 -- the same under a policy with a tag for each byte
 abbrev odd_bytes : Setup
-odd_bytes = setup_of ByteTags odd_words (65 ∷ 66 ∷ 67 ∷ 68 ∷ 69 ∷ []) standard_rules 1 1048576 4294967280
+odd_bytes = setup_of ByteTags ODD (65 ∷ 66 ∷ 67 ∷ 68 ∷ 69 ∷ []) standard_rules 1 1048576 4294967280
 
 -- reads one byte, and jumps to the clean byte beside it
 abbrev beside : Version → Setup
-beside version = setup_of version beside_words (0 ∷ []) standard_rules 1 1048576 4294967280
+beside version = setup_of version BYTE_JUMP (0 ∷ []) standard_rules 1 1048576 4294967280
 
 abbrev tag_along : Setup → List ℕ → ℕ → ℕ
 tag_along s order word = ((along s order).words word).tag
@@ -122,7 +123,7 @@ abbrev odd_fill : ℕ → Op
 odd_fill index = fill 0x11002 5 index (65 ∷ 66 ∷ 67 ∷ 68 ∷ 69 ∷ []) 0
 
 abbrev reserve : Setup
-reserve = usual lrsc_words []
+reserve = usual LRSC []
 
 -- brk of 0, and an exit with the page of the answer
 abbrev break : Setup
@@ -152,8 +153,8 @@ record Worked : Type 0 where
   hi_output : output_along hi (zeros 13) ≡ 104 ∷ 105 ∷ 10 ∷ []
   hi_log : log_along hi (zeros 13) 0 ≡ times 6 no_access ++ access 12 0 0x000a6968 ∷ no_access ∷ access 1 0 0 ∷ [] ++ times 4 no_access
   hi_class : class_along hi (zeros 13) ≡ 0
-  bad_buffer_gives_bad_address : endings (usual (slice_set (slice_set hi_words 1 0x000005b7) 6 0x00000013) []) (zeros 10) ≡ exits 242 10 ∷ []
-  unknown_call_gives_no_call : endings (usual (slice_set (slice_set hi_words 4 0x03900893) 6 0x00000013) []) (zeros 10) ≡ exits 218 10 ∷ []
+  bad_buffer_gives_bad_address : endings (usual (slice_set (slice_set HI 1 0x000005b7) 6 0x00000013) []) (zeros 10) ≡ exits 242 10 ∷ []
+  unknown_call_gives_no_call : endings (usual (slice_set (slice_set HI 4 0x03900893) 6 0x00000013) []) (zeros 10) ≡ exits 218 10 ∷ []
   store_conditional_fails_after_a_store : endings lrsc store_between ≡ exits 1 8 ∷ exits 0 6 ∷ []
   reservation_alone : endings reserve (zeros 8) ≡ exits 0 8 ∷ []
   reservation_log : log_along reserve (zeros 8) 0 ≡ no_access ∷ no_access ∷ access 1027 0 0 ∷ access 1027 1 0 ∷ times 4 no_access
@@ -188,11 +189,11 @@ record Worked : Type 0 where
   odd_bytes_end : endings odd_bytes (zeros 21) ≡ exits 0 21 ∷ []
   byte_beside_a_read_one_has_its_words_tag : endings (beside WordTags) (zeros 15) ≡ (Some Trapped, 15, Some (trap 11 0x10020 1 1)) ∷ []
   byte_beside_a_read_one_has_no_byte_tag : endings (beside ByteTags) (zeros 15) ≡ exits 0 15 ∷ []
-  count_ends : endings (usual count_words []) (zeros 3006) ≡ exits 0 3006 ∷ []
-  spent_accesses_end_both : endings (setup count_words [] standard_rules 2 1048576 1) turns ≡ (Some Spent, 7, None) ∷ (Some Spent, 4, None) ∷ []
-  spent_numbers : slice_get (log_along (setup count_words [] standard_rules 2 1048576 1) turns 0) 6 ≡ Some (access 1027 2 1)
-  spent_number_of_the_other : slice_get (log_along (setup count_words [] standard_rules 2 1048576 1) turns 1) 3 ≡ Some (access 1027 1 1)
-  spent_class : class_along (setup count_words [] standard_rules 2 1048576 1) turns ≡ 5
+  count_ends : endings (usual COUNT []) (zeros 3006) ≡ exits 0 3006 ∷ []
+  spent_accesses_end_both : endings (setup COUNT [] standard_rules 2 1048576 1) turns ≡ (Some Spent, 7, None) ∷ (Some Spent, 4, None) ∷ []
+  spent_numbers : slice_get (log_along (setup COUNT [] standard_rules 2 1048576 1) turns 0) 6 ≡ Some (access 1027 2 1)
+  spent_number_of_the_other : slice_get (log_along (setup COUNT [] standard_rules 2 1048576 1) turns 1) 3 ≡ Some (access 1027 1 1)
+  spent_class : class_along (setup COUNT [] standard_rules 2 1048576 1) turns ≡ 5
   no_instruction_faults : endings (usual (0 ∷ []) []) (zeros 1) ≡ (Some (Fault Illegal), 1, None) ∷ []
   breakpoint_faults : endings (usual (0x00100073 ∷ []) []) (zeros 1) ≡ (Some (Fault Break), 1, None) ∷ []
   fault_class : class_along (usual (0 ∷ []) []) (zeros 1) ≡ 3
