@@ -1,5 +1,5 @@
 -- What the pairs of a run have is what their actors have kept, core by core.
-use Rattle.std.proofs.Common.{◌≡◌, ℕ, suc, List, [], ◌∷◌, map, length, refl, ap₂, arith}
+use Rattle.std.proofs.Common.{◌≡◌, suc, List, [], ◌∷◌, map, length, refl, ap₂, arith}
 use Rattle.hart_actor.specs.Harts.{Hart}
 use Rattle.tag_actor.specs.Seen.{TagActorSeen}
 use Rattle.live_run.specs.declared.pair.Pair.{Pair}

@@ -37,7 +37,13 @@ pub record AreSeats (s : Setup) (memory tags : TableSeen) (harts : List Hart) (f
       → slice_get harts core ≡ Some hart → slice_get followers core ≡ Some follower → slice_get items core ≡ Some ring → slice_get replies core ≡ Some lane
       → IsSeat s memory tags core hart follower ring lane
 
--- every actor has ended
+-- each core has ended, and each tag actor
+abbrev pub HaveAllEnded : List Hart → Type 0
+HaveAllEnded harts = (core : ℕ) (hart : Hart) → slice_get harts core ≡ Some hart → HasEnded hart
+
+abbrev pub HaveAllFollowed : List TagActorSeen → Type 0
+HaveAllFollowed followers = (core : ℕ) (follower : TagActorSeen) → slice_get followers core ≡ Some follower → follower.ended ≡ true
+
 pub record HaveEnded (all_harts : List Hart) (all_followers : List TagActorSeen) : Type 0 where
-  pub harts : (core : ℕ) (hart : Hart) → slice_get all_harts core ≡ Some hart → HasEnded hart
-  pub followers : (core : ℕ) (follower : TagActorSeen) → slice_get all_followers core ≡ Some follower → follower.ended ≡ true
+  pub harts : HaveAllEnded all_harts
+  pub followers : HaveAllFollowed all_followers

@@ -110,15 +110,15 @@ impl Lasting for TagActor {
 impl<'a> Actor<Objects<'a>> for HartActor {
     ghost use Rattle.live_run.specs.Staying.{hart_fits_still};
 
-    ghost fits = { λ place core hart. FitsHart place.setup.now.program place.memory.now place.items.now place.replies.now place.quantum core hart };
+    ghost fits = { λ place core hart. FitsHart place.setup.now.program place.memory place.items.items place.replies.items place.quantum core hart };
 
-    ghost fits_still = { λ place core a b. hart_fits_still place.setup.now.program place.memory.now place.items.now place.replies.now place.quantum core a b };
+    ghost fits_still = { λ place core a b. hart_fits_still place.setup.now.program place.memory place.items.items place.replies.items place.quantum core a b };
 
     fn visit<R: Wait>(&mut self, rt: &R, place: &Objects<'a>, core: usize) -> Visit {
         let turn = self.turn(
             rt,
             place.setup.guest(),
-            place.memory,
+            &place.memory,
             &place.items[core],
             &place.replies[core],
             place.quantum,
@@ -134,14 +134,14 @@ impl<'a> Actor<Objects<'a>> for HartActor {
 impl<'a> Actor<Objects<'a>> for TagActor {
     ghost use Rattle.live_run.specs.Staying.{follower_fits_still};
 
-    ghost fits = { λ place core follower. FitsFollower place.tags.now place.items.now place.replies.now place.quantum core follower };
+    ghost fits = { λ place core follower. FitsFollower place.tags place.items.items place.replies.items place.quantum core follower };
 
-    ghost fits_still = { λ place core a b. follower_fits_still place.tags.now place.items.now place.replies.now place.quantum core a b };
+    ghost fits_still = { λ place core a b. follower_fits_still place.tags place.items.items place.replies.items place.quantum core a b };
 
     fn visit<R: Wait>(&mut self, rt: &R, place: &Objects<'a>, core: usize) -> Visit {
         let turn = self.turn(
             rt,
-            place.tags,
+            &place.tags,
             &place.items[core],
             &place.replies[core],
             place.quantum,

@@ -1,6 +1,7 @@
 //! All actors of a run.
 ghost use Rattle.std.specs.Prelude.{◌≤◌};
-ghost use Rattle.live_run.specs.Seats.{AreSeats, HaveEnded};
+ghost use Rattle.live_run.specs.Seats.{HaveEnded};
+ghost use Rattle.live_run.specs.Parts.{AreSeatedAt};
 
 use crate::objects::Objects;
 use crate::rounds::drive;
@@ -26,9 +27,9 @@ pub(crate) fn run_all<G: Gate, X: Threads + Wait + Sync>(
     actors: Actors,
     gate: &G,
 ) -> Actors
-    requires seats { AreSeats objects.now.setup.now objects.now.memory.now objects.now.tags.now actors.harts.items actors.followers.items objects.now.items.now objects.now.replies.now }
+    requires seats { AreSeatedAt objects.now actors }
     requires quantum { 1 ≤ objects.now.quantum }
-    ensures seats { AreSeats objects.now.setup.now objects.now.memory.now objects.now.tags.now result.harts.items result.followers.items objects.now.items.now objects.now.replies.now }
+    ensures seats { AreSeatedAt objects.now result }
     ensures ended { HaveEnded result.harts.items result.followers.items }
 {
     let _guest = objects.setup.guest();
@@ -44,9 +45,9 @@ pub(crate) fn drive_all<G: Gate, R: Wait>(
     actors: Actors,
     gate: &G,
 ) -> Actors
-    requires seats { AreSeats objects.now.setup.now objects.now.memory.now objects.now.tags.now actors.harts.items actors.followers.items objects.now.items.now objects.now.replies.now }
+    requires seats { AreSeatedAt objects.now actors }
     requires quantum { 1 ≤ objects.now.quantum }
-    ensures seats { AreSeats objects.now.setup.now objects.now.memory.now objects.now.tags.now result.harts.items result.followers.items objects.now.items.now objects.now.replies.now }
+    ensures seats { AreSeatedAt objects.now result }
     ensures ended { HaveEnded result.harts.items result.followers.items }
 {
     let _guest = objects.setup.guest();

@@ -8,7 +8,6 @@ ghost use Rattle.live_run.specs.Ends.{lefts_by};
 use crate::closing::{Closed, close_run};
 use crate::ends::finish_all;
 use crate::parts::LiveParts;
-use crate::room::RunRoom;
 use inline_tracker::Finished;
 
 /// Ends the actors of a run, closes its tables, and gives what they leave together. Its order is walked along the logs.
@@ -21,24 +20,23 @@ pub fn assemble(parts: LiveParts<'_>) -> Finished
     ensures given { result.given ≡ 0 }
 {
     let LiveParts {
-        setup,
-        memory,
-        tags,
-        items,
-        replies,
-        harts,
-        followers,
-        quantum: _,
+        objects,
+        actors,
         room,
     } = parts;
-    let RunRoom { walk, ends, output } = room;
     // The ranges of the setup bound the output.
-    let _ranges = setup.guest();
-    let ends = finish_all(harts, followers, items, replies, ends);
+    let _ranges = objects.setup.guest();
+    let ends = finish_all(
+        actors.harts,
+        actors.followers,
+        objects.items,
+        objects.replies,
+        room.ends,
+    );
     let Closed {
         logs,
         outcomes,
         output,
-    } = close_run(memory, tags, ends, output);
-    Finished::of_walk(setup, walk, logs, outcomes, output)
+    } = close_run(objects.memory, objects.tags, ends, room.output);
+    Finished::of_walk(objects.setup, room.walk, logs, outcomes, output)
 }

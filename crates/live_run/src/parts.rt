@@ -1,19 +1,19 @@
 //! The parts of a run: its tables, and the actors of its cores.
 ghost use Rattle.std.specs.Prelude.{◌≡◌, ◌≤◌, ◌↔◌, IsTrue, IfOk};
-ghost use Rattle.live_run.specs.Seats.{HaveEnded};
-ghost use Rattle.live_run.specs.Parts.{HaveAllEnded, HaveAllFollowed};
-ghost use Rattle.live_run.specs.Beginnings.{AreNew};
+ghost use Rattle.live_run.specs.Seats.{HaveEnded, HaveAllEnded, HaveAllFollowed};
+ghost use Rattle.live_run.specs.Beginnings.{AreNew, HaveBound};
 
+use crate::actors::Actors;
+use crate::objects::Objects;
 use crate::opening::{Seats, first_seats};
 use crate::room::RunRoom;
 use crate::tables::Tables;
 use hart_actor::HartActor;
 use inline_tracker::Setup;
-use record_lane::{Lane, Record, Reply, Ring};
 use std::alloc::Global;
 use std::marker::Model;
 use tag_actor::TagActor;
-use word_stores::{NoMemory, SharedMemory, TagMemory};
+use word_stores::NoMemory;
 
 /// How a run goes on: the most records that wait for a tag actor, and the most units or records of a turn.
 #[derive(Clone, Copy, Debug, PartialEq, Eq)]
@@ -25,45 +25,19 @@ pub struct RunShape {
 /// The tables of a setup's run and the actors of its cores, between their turns.
 #[derive(Drop)]
 pub struct LiveParts<'a> {
-    pub(crate) setup: &'a Setup,
-    pub(crate) memory: SharedMemory,
-    pub(crate) tags: TagMemory,
-    pub(crate) items: Vec<Ring<Record>>,
-    pub(crate) replies: Vec<Lane<Reply>>,
-    pub(crate) harts: Vec<HartActor>,
-    pub(crate) followers: Vec<TagActor>,
-    pub(crate) quantum: u32,
+    pub(crate) objects: Objects<'a>,
+    pub(crate) actors: Actors,
     pub(crate) room: RunRoom,
 }
 
 impl<'a> Model for LiveParts<'a> {
-    ghost use Rattle.live_run.specs.Parts.{LiveSeen, AreLive};
+    ghost use Rattle.live_run.specs.Parts.{LiveSeen, AreLive, live_seen};
 
     ghost Value = { LiveSeen };
 
-    ghost view = { λ parts. record {
-      setup = parts.setup.now;
-      memory = parts.memory;
-      tags = parts.tags;
-      harts = parts.harts.items;
-      followers = parts.followers.items;
-      items = parts.items.items;
-      replies = parts.replies.items;
-      quantum = parts.quantum;
-      room = parts.room;
-    } };
+    ghost view = { λ parts. live_seen parts.objects parts.actors parts.room };
 
-    ghost invariant = { λ parts. AreLive (record {
-      setup = parts.setup.now;
-      memory = parts.memory;
-      tags = parts.tags;
-      harts = parts.harts.items;
-      followers = parts.followers.items;
-      items = parts.items.items;
-      replies = parts.replies.items;
-      quantum = parts.quantum;
-      room = parts.room;
-    }) };
+    ghost invariant = { λ parts. AreLive (live_seen parts.objects parts.actors parts.room) };
 }
 
 impl<'a> LiveParts<'a> {
@@ -76,6 +50,7 @@ impl<'a> LiveParts<'a> {
         requires bound { (1 ≤ shape.bound) × (shape.bound ≤ 4096) }
         requires quantum { 1 ≤ shape.quantum }
         ensures setup { IfOk result (λ parts. parts.setup ≡ setup.entry.now) }
+        ensures bound { IfOk result (λ parts. HaveBound shape.bound parts.items) }
         ensures quantum { IfOk result (λ parts. parts.quantum ≡ shape.quantum) }
         ensures new { IfOk result (λ parts. AreNew setup.entry.now parts.harts parts.followers) }
     {
@@ -90,14 +65,15 @@ impl<'a> LiveParts<'a> {
             replies,
         } = seats;
         Ok(LiveParts {
-            setup,
-            memory,
-            tags,
-            items,
-            replies,
-            harts,
-            followers,
-            quantum: shape.quantum,
+            objects: Objects {
+                setup,
+                memory,
+                tags,
+                items,
+                replies,
+                quantum: shape.quantum,
+            },
+            actors: Actors { harts, followers },
             room,
         })
     }
@@ -106,7 +82,8 @@ impl<'a> LiveParts<'a> {
     pub fn ended(&self) -> bool
         ensures { IsTrue result ↔ HaveEnded self.now.harts self.now.followers }
     {
-        harts_have_ended(self.harts.as_slice()) && followers_have_ended(self.followers.as_slice())
+        harts_have_ended(self.actors.harts.as_slice())
+            && followers_have_ended(self.actors.followers.as_slice())
     }
 }
 

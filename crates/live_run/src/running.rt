@@ -1,9 +1,7 @@
 //! A run from its parts to the end of its actors.
-ghost use Rattle.live_run.specs.Seats.{HaveEnded};
-ghost use Rattle.live_run.specs.Parts.{AreSameParts};
+ghost use Rattle.live_run.specs.Parts.{HasRunTo};
 
-use crate::actors::{Actors, drive_all, run_all};
-use crate::objects::Objects;
+use crate::actors::{drive_all, run_all};
 use crate::parts::LiveParts;
 use outside::Gate;
 use std::sync::Wait;
@@ -15,50 +13,18 @@ pub fn run<'a, G: Gate, X: Threads + Wait + Sync>(
     parts: LiveParts<'a>,
     gate: &G,
 ) -> LiveParts<'a>
-    ensures same { AreSameParts parts.entry result }
-    ensures ended { HaveEnded result.harts result.followers }
+    ensures { HasRunTo parts.entry result }
 {
-    let actors = Actors {
-        harts: parts.harts,
-        followers: parts.followers,
-    };
-    let objects = Objects {
-        setup: parts.setup,
-        memory: &parts.memory,
-        tags: &parts.tags,
-        items: parts.items.as_slice(),
-        replies: parts.replies.as_slice(),
-        quantum: parts.quantum,
-    };
-    let Actors { harts, followers } = run_all(rt, &objects, actors, gate);
-    LiveParts {
-        harts,
-        followers,
-        ..parts
-    }
+    let actors = parts.actors;
+    let actors = run_all(rt, &parts.objects, actors, gate);
+    LiveParts { actors, ..parts }
 }
 
 /// Goes on with the run until each actor has ended, all in turns on the caller's thread.
 pub fn drive<'a, G: Gate, X: Wait>(rt: &X, parts: LiveParts<'a>, gate: &G) -> LiveParts<'a>
-    ensures same { AreSameParts parts.entry result }
-    ensures ended { HaveEnded result.harts result.followers }
+    ensures { HasRunTo parts.entry result }
 {
-    let actors = Actors {
-        harts: parts.harts,
-        followers: parts.followers,
-    };
-    let objects = Objects {
-        setup: parts.setup,
-        memory: &parts.memory,
-        tags: &parts.tags,
-        items: parts.items.as_slice(),
-        replies: parts.replies.as_slice(),
-        quantum: parts.quantum,
-    };
-    let Actors { harts, followers } = drive_all(rt, &objects, actors, gate);
-    LiveParts {
-        harts,
-        followers,
-        ..parts
-    }
+    let actors = parts.actors;
+    let actors = drive_all(rt, &parts.objects, actors, gate);
+    LiveParts { actors, ..parts }
 }

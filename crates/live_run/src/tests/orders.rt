@@ -1,7 +1,8 @@
 //! Runs whose actors have their turns in orders drawn by lot.
 ghost use Rattle.std.specs.Prelude.{◌≡◌, ◌<◌, ◌≤◌, length, IfOk};
 ghost use Rattle.live_run.specs.Places.{EachIs, AreSame};
-ghost use Rattle.live_run.specs.Seats.{AreSeats, HaveEnded};
+ghost use Rattle.live_run.specs.Seats.{HaveEnded};
+ghost use Rattle.live_run.specs.Parts.{AreSeatedAt};
 
 use super::*;
 use crate::actor::{Actor, Lasting};
@@ -56,9 +57,9 @@ fn turn_at<A: Actor<S>, S, R: Wait>(rt: &R, actors: &mut [A], place: &S, core: u
 
 /// A turn of one actor.
 fn turn_of<R: Wait>(rt: &R, objects: &Objects<'_>, actors: Actors, who: Who) -> Actors
-    requires seats { AreSeats objects.now.setup.now objects.now.memory.now objects.now.tags.now actors.harts.items actors.followers.items objects.now.items.now objects.now.replies.now }
+    requires seats { AreSeatedAt objects.now actors }
     requires quantum { 1 ≤ objects.now.quantum }
-    ensures seats { AreSeats objects.now.setup.now objects.now.memory.now objects.now.tags.now result.harts.items result.followers.items objects.now.items.now objects.now.replies.now }
+    ensures seats { AreSeatedAt objects.now result }
 {
     let Actors {
         mut harts,
@@ -76,23 +77,17 @@ fn after_turn<'a, R: Wait>(rt: &R, parts: LiveParts<'a>, who: Who, quantum: u32)
     requires { 1 ≤ quantum }
     ensures { result.setup ≡ parts.entry.setup }
 {
-    let actors = Actors {
-        harts: parts.harts,
-        followers: parts.followers,
-    };
-    let objects = Objects {
-        setup: parts.setup,
-        memory: &parts.memory,
-        tags: &parts.tags,
-        items: parts.items.as_slice(),
-        replies: parts.replies.as_slice(),
-        quantum,
-    };
-    let Actors { harts, followers } = turn_of(rt, &objects, actors, who);
+    let LiveParts {
+        objects,
+        actors,
+        room,
+    } = parts;
+    let objects = Objects { quantum, ..objects };
+    let actors = turn_of(rt, &objects, actors, who);
     LiveParts {
-        harts,
-        followers,
-        ..parts
+        objects,
+        actors,
+        room,
     }
 }
 
