@@ -150,10 +150,11 @@ module _ (s : Setup) (pairs : List Pair) (memory tags : TableSeen) (ends : Ends)
 
     -- ---- the output's word
 
+    pub count_of_words : length words ≡ words_of s.program.layout
+    count_of_words = (closes.leaves).count ∙ ap (λ (b : Basis). length b.first) (ready.tables).memory ∙ first_words_count s.program.layout
+
     pub word_within : 1 < length words
-    word_within =
-        let count : length words ≡ words_of s.program.layout = (closes.leaves).count ∙ ap (λ (b : Basis). length b.first) (ready.tables).memory ∙ first_words_count s.program.layout in
-        omega (arith, count, enough_words s.program.layout)
+    word_within = omega (arith, count_of_words, enough_words s.program.layout)
 
     pub size_is : payload_of (slice_index words OUTPUT_WORD) ≡ left memory.basis draws history
     size_is = (closes.leaves).payloads OUTPUT_WORD word_within

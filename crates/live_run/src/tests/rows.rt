@@ -1,7 +1,12 @@
 //! The rows of small programs, each by several shapes of a run.
+ghost use Rattle.std.specs.Prelude.{◌≡◌, IfOk};
+ghost use Rattle.live_run.specs.Seats.{HaveEnded};
+
 use super::*;
+use crate::ends::finish_all;
 use std::sync::Wait;
 use std::thread::Threads;
+use ticket_table::{number, payload};
 
 /// The policy under which no input is to reach the output.
 const CHECK_SINK: &str = "version = 1\n[[policy]]\nsource = true\ncheck_sink = true\n";
@@ -68,6 +73,62 @@ fn one_thread_gives_all_actors_their_turns(rt: HostRuntime) -> Result<(), Fail> 
     assert!(rt; parts.ended());
     let fault = fault_of(rt.alloc(), &setup, assemble(parts), &row)?;
     assert_eq!(rt; fault, None);
+    Ok(())
+}
+
+/// The parts of a run of this shape, whose actors have had their turns on one thread until all have ended.
+fn driven<'a, X: Wait>(
+    rt: &X,
+    alloc: Global,
+    setup: &'a Setup,
+    bound: u32,
+    quantum: u32,
+) -> Result<LiveParts<'a>, Fail>
+    ensures setup { IfOk result (λ parts. parts.setup ≡ setup.entry.now) }
+    ensures ended { IfOk result (λ parts. HaveEnded parts.harts parts.followers) }
+{
+    let parts = parts_of(alloc, setup, bound, quantum)?;
+    Ok(drive(rt, parts, &OpenGate))
+}
+
+/// A word of the data table of a run that has ended, as the table closes: its count and its payload.
+fn closed_word(parts: LiveParts<'_>, word: u32) -> Result<(u32, u32), Fail>
+    requires { HaveEnded parts.harts parts.followers }
+{
+    let LiveParts {
+        objects,
+        actors,
+        room,
+    } = parts;
+    if word >= objects.setup.guest().image().words() {
+        return Err(Fail::new("no such word"));
+    }
+    let ends = finish_all(
+        actors.harts,
+        actors.followers,
+        objects.items,
+        objects.replies,
+        room.ends,
+    );
+    let words = objects.memory.close(ends.drawn.into_vec());
+    let left = words.word(word);
+    Ok((number(left), payload(left)))
+}
+
+#[test]
+fn the_shortest_ring_and_turn_count_to_two_thousand(rt: HostRuntime) -> Result<(), Fail> {
+    let alloc = rt.alloc();
+    let row = Row {
+        class: Some(0),
+        ..quiet("count", &COUNT, 2, 6_012)
+    };
+    let setup = setup_of(alloc, &row)?;
+    let parts = driven(&rt, alloc, &setup, 1, 1)?;
+    let fault = fault_of(alloc, &setup, assemble(parts), &row)?;
+    assert_eq!(rt; fault, None);
+    let parts = driven(&rt, alloc, &setup, 1, 1)?;
+    // The word at 0x11000, behind the three words of devices.
+    assert_eq!(rt; closed_word(parts, 1_027)?, (2_000, 2_000));
     Ok(())
 }
 
