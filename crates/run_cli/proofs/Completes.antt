@@ -1,13 +1,15 @@
 -- Where words and files are those of a run, a replay or a map, and no count rose, a command ends with its answer or for want of memory.
 use Rattle.std.proofs.Common.{◌≡◌, ℕ, ◌<◌, ◌≤◌, ◌⊎◌, inl, inr, List, ◌∷◌, length, slice_get, codes, Option, None, Some, IsSome, IfSome, Ok, refl, sym, ap, subst, ◌∙◌, arith}
 use Rattle.outside.specs.Faults.{Rose}
+use Rattle.outside.specs.Files.{IsTold}
 use Rattle.outside.specs.Sinks.{SinkSeen}
 use Rattle.elf_image.specs.Layout.{Layout}
 use Rattle.machine.specs.Setups.{Setup}
 use Rattle.machine.specs.Runs.{IsComplete}
-use Rattle.trap_report.specs.Text.{text}
+use Rattle.trap_report.specs.Text.{text, numbers_of}
 use Rattle.trap_report.specs.Reading.{Reported, saved_of}
 use Rattle.trap_report.specs.declared.saved.ReportKind.{ReportKind}
+use Rattle.trap_report.proofs.ReadLaws.{reads_back}
 use Rattle.run_cli.specs.Seen.{FilesSeen, Seen}
 use Rattle.run_cli.specs.Asked.{ImageAsked, RunAsked, ReplayAsked, Asked, Run, Replay, Inspect}
 use Rattle.run_cli.specs.Words.{Reads, ReadsOffline}
@@ -177,16 +179,25 @@ replay_refusal files new o s Memory can told calm caused = refl
 replay_refusal files new o s (Read kind) can told calm caused = absurd (calm caused.name caused.rose)
 replay_refusal files new o s Write can told calm caused = absurd caused
 
+told_some : (held : Option (List ℕ)) (bytes : List ℕ) → held ≡ Some bytes → IsSome held
+told_some held bytes is = rw is refl
+
+told_is : (held : Option (List ℕ)) (bytes : List ℕ) → held ≡ Some bytes → IsTold held bytes
+told_is held bytes is = rw is refl
+
 pub completes_replay : (words : List (List ℕ)) (old new : Seen) (ending : Ending) → Ended Reads words old new ending → CompletesReplay words old new (exit_status ending)
 completes_replay words old new ending ended can calm =
     let replays : Replays old.files can.asked can.setup = record {
-      held = can.report;
-      bytes = can.bytes;
-      told = can.told;
-      report = can.replay_of.report;
-      files_told = can.files_told;
+      held = told_some (old.files.held can.asked.report) (text can.setup can.order) can.report;
+      bytes = text can.setup can.order;
+      told = record { numbers = numbers_of can.setup; order = can.order };
+      report = record {
+        contents = record { told = told_is (old.files.held can.asked.report) (text can.setup can.order) can.report; within = can.within };
+        says = reads_back can.setup can.order can.reportable (can.complete).playable;
+      };
+      files_told = can.told;
       complete = can.complete;
-      same = can.same;
+      same = refl;
     } in
     completes_by words old new ending (Replay can.asked) (λ n. n ≡ 0) can.reads
     (record {

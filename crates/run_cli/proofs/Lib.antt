@@ -5,4 +5,5 @@ pub mod Concluding
 pub mod Replaying
 pub mod Completing
 pub mod Completes
+pub mod Replayable
 pub mod MapLemmas

@@ -1,15 +1,16 @@
 -- When a command is not refused but for want of memory (this project's own).
-use Rattle.std.specs.Prelude.{◌≡◌, ℕ, ◌≤◌, ◌⊎◌, List, Option, None, Some, IsSome}
+use Rattle.std.specs.Prelude.{◌≡◌, ℕ, ◌≤◌, ◌⊎◌, List, length, Option, None, Some, IsSome}
 use Rattle.outside.specs.Faults.{Rose}
 use Rattle.elf_image.specs.Layout.{Layout}
 use Rattle.machine.specs.Setups.{Setup}
 use Rattle.machine.specs.Runs.{IsComplete}
-use Rattle.trap_report.specs.Text.{text}
-use Rattle.trap_report.specs.Reading.{Reported}
+use Rattle.trap_report.specs.Text.{text, numbers_of}
+use Rattle.trap_report.specs.ReportLaws.{IsReportable}
 use Rattle.run_cli.specs.Seen.{FilesSeen, Seen}
 use Rattle.run_cli.specs.Asked.{ImageAsked, SetupAsked, RunAsked, ReplayAsked, Run, Replay, Inspect}
 use Rattle.run_cli.specs.Words.{Reads}
-use Rattle.run_cli.specs.Work.{IsImage, IsSetupOf, IsReplayOf, setup_told}
+use Rattle.run_cli.specs.Work.{most_bytes, IsImage, IsSetupOf, setup_told}
+use Rattle.run_cli.specs.declared.files.FileKind.TheVariants.{Report}
 
 abbrev pub IsToldOf : FilesSeen → Option (List ℕ) → Type 0
 IsToldOf files None = Unit {0}
@@ -28,18 +29,17 @@ pub record CanRun (words : List (List ℕ)) (files : FilesSeen) (s : Setup) : Ty
   pub reads : Reads words (Run asked)
   pub told : AreToldOf files asked.setup s
 
--- they are those of a report that is the text of its own order, which is complete
+-- they are those of a replay, and its report is that of a setup of these files along an order that is complete
 pub record CanReplay (words : List (List ℕ)) (files : FilesSeen) : Type 0 where
   pub asked : ReplayAsked
   pub reads : Reads words (Replay asked)
-  pub report : IsSome (files.held asked.report)
-  pub bytes : List ℕ
-  pub told : Reported
   pub setup : Setup
-  pub replay_of : IsReplayOf files asked bytes told setup
-  pub files_told : AreToldOf files (setup_told asked told.numbers) setup
-  pub complete : IsComplete setup told.order
-  pub same : bytes ≡ text setup told.order
+  pub reportable : IsReportable setup
+  pub told : AreToldOf files (setup_told asked (numbers_of setup)) setup
+  pub order : List ℕ
+  pub complete : IsComplete setup order
+  pub report : files.held asked.report ≡ Some (text setup order)
+  pub within : length (text setup order) ≤ most_bytes Report
 
 -- they are those of the map of an image
 pub record CanMap (words : List (List ℕ)) (files : FilesSeen) (image : Layout) : Type 0 where

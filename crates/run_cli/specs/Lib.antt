@@ -7,4 +7,5 @@ pub mod MapText
 pub mod Causes
 pub mod Endings
 pub mod Completeness
+pub mod Replayable
 pub mod Forms

@@ -7,6 +7,7 @@ ghost use Rattle.run_cli.specs.Words.{Reads};
 ghost use Rattle.run_cli.specs.Lines.{exit_status};
 ghost use Rattle.run_cli.specs.Endings.{Ended};
 ghost use Rattle.run_cli.specs.Completeness.{Completes, CompletesReplay, CompletesMap};
+ghost use Rattle.run_cli.specs.Replayable.{Replayable};
 ghost use Rattle.run_cli.specs.Forms.{Came};
 
 use crate::deliver::deliver;
@@ -93,6 +94,10 @@ pub fn command<F: Files, O: Sink, R: Sink, G: Gate, X: Threads + Wait + Sync>(
         (seen (files_seen (F.held files.new) (F.faults files.new)) (sinks_seen (O.written out.new) (O.faults out.new) (R.written report.new) (R.faults report.new)))
         result }
     ensures completes_map { CompletesMap (map string_bytes words.now)
+        (seen (files_seen (F.held files.old) (F.faults files.old)) (sinks_seen (O.written out.old) (O.faults out.old) (R.written report.old) (R.faults report.old)))
+        (seen (files_seen (F.held files.new) (F.faults files.new)) (sinks_seen (O.written out.new) (O.faults out.new) (R.written report.new) (R.faults report.new)))
+        result }
+    ensures replays { Replayable (map string_bytes words.now)
         (seen (files_seen (F.held files.old) (F.faults files.old)) (sinks_seen (O.written out.old) (O.faults out.old) (R.written report.old) (R.faults report.old)))
         (seen (files_seen (F.held files.new) (F.faults files.new)) (sinks_seen (O.written out.new) (O.faults out.new) (R.written report.new) (R.faults report.new)))
         result }
