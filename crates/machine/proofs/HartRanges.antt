@@ -8,7 +8,6 @@ use Rattle.rv_decode.specs.declared.insn.Insn.{Insn}
 use Rattle.rv_decode.specs.declared.insn.Insn.TheVariants.{Lui, Auipc, Jal, Jalr, Branch, Load, Store, Imm, Reg, Fence, Ecall, Ebreak, Lr, Sc, Amo}
 use Rattle.rv_decode.specs.declared.insn.StoreKind.{StoreKind}
 use Rattle.rv_decode.specs.declared.insn.StoreKind.TheVariants.{Sb, Sh, Sw}
-use Rattle.rv_decode.specs.Kinds.{shift_funct7}
 use Rattle.rv_decode.specs.Ranges.{Fits, IsTwelveBits, IsOperand}
 use Rattle.rv_execute.specs.declared.op.Op.{Op}
 use Rattle.rv_execute.specs.declared.op.Taken.{Taken}
@@ -64,7 +63,7 @@ registers_after h (Branch kind rs1 rs2 imm) t fits all found = all
 registers_after h (Load kind rd rs1 imm) t fits all found = written_words rd _ h.regs all (loaded_word kind (address h rs1 imm % 4) (found_by t) found)
 registers_after h (Store kind rs1 rs2 imm) t fits all found = all
 registers_after h (Imm kind rd rs1 imm) t fits all found =
-    written_words rd _ h.regs all (result_word (register_form kind) (reg h rs1) (pattern imm) (all rs1) (operand (shift_funct7 kind) imm fits.2))
+    written_words rd _ h.regs all (result_word (register_form kind) (reg h rs1) (pattern imm) (all rs1) (operand _ imm fits.2))
 registers_after h (Reg kind rd rs1 rs2) t fits all found = written_words rd _ h.regs all (result_word kind (reg h rs1) (reg h rs2) (all rs1) (all rs2))
 registers_after h Fence t fits all found = all
 registers_after h Ecall t fits all found = all
