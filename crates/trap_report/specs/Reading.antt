@@ -2,6 +2,9 @@
 -- is bad with its kind. The format is this project's own.
 use Rattle.std.specs.Prelude.{ℕ, ◌+◌, ◌-◌, ◌*◌, ◌==◌, if◌then◌else◌, List, [], ◌∷◌, ◌++◌, replicate, Result, Ok, Err}
 use Rattle.std.specs.List.{slice_split}
+use Rattle.elf_image.specs.declared.limits.TheConstants.{MOST_STACK, MOST_HEAP}
+use Rattle.syscall_drain.specs.declared.limits.TheConstants.{MOST_BUDGET}
+use Rattle.trap_report.specs.declared.limits.TheConstants.{MOST_CORES, MOST_LIMIT}
 use Rattle.trap_report.specs.Text.{Numbers}
 use Rattle.trap_report.specs.Forms.{has_shape, forms_read}
 use Rattle.trap_report.specs.declared.report_line.HeaderLine.{HeaderLine}
@@ -38,11 +41,11 @@ abbrev pub any_number : Field
 any_number = Decimal 0 4294967295
 
 abbrev pub header_range : HeaderLine → Field
-header_range Cores = Decimal 1 8
-header_range Budget = Decimal 1 1048576
-header_range Limit = Decimal 1 4294967280
-header_range Stack = Decimal 1 4096
-header_range Heap = Decimal 0 4096
+header_range Cores = Decimal 1 MOST_CORES
+header_range Budget = Decimal 1 MOST_BUDGET
+header_range Limit = Decimal 1 MOST_LIMIT
+header_range Stack = Decimal 1 MOST_STACK
+header_range Heap = Decimal 0 MOST_HEAP
 
 -- the units are at most the budgets of all cores; a core is one of the header's
 abbrev pub count_range : Numbers → Section → Field

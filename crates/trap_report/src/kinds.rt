@@ -9,9 +9,12 @@ ghost use Rattle.trap_report.specs.declared.form.Field.TheVariants.{Decimal};
 ghost use Rattle.trap_report.specs.declared.report_line.Section.TheVariants.{Calls, Ends, Traps, Units};
 
 use crate::form::{Field, ReportWord};
+use crate::limits::{MOST_CORES, MOST_LIMIT};
 use crate::match_line::form_read;
 use crate::report_line::{HeaderLine, Section};
 use crate::saved::ReportKind;
+use elf_image::limits::{MOST_HEAP, MOST_STACK};
+use syscall_drain::limits::MOST_BUDGET;
 
 // A decimal that has no other range than its type.
 const ANY: Field = Field::Decimal(0, u32::MAX);
@@ -50,11 +53,11 @@ fn header_range(name: HeaderLine) -> Field
     ensures small { greatest (result ∷ []) < 2 ^ 32 }
 {
     match name {
-        HeaderLine::Cores => Field::Decimal(1, 8),
-        HeaderLine::Budget => Field::Decimal(1, 1048576),
-        HeaderLine::Limit => Field::Decimal(1, 4294967280),
-        HeaderLine::Stack => Field::Decimal(1, 4096),
-        HeaderLine::Heap => Field::Decimal(0, 4096),
+        HeaderLine::Cores => Field::Decimal(1, MOST_CORES),
+        HeaderLine::Budget => Field::Decimal(1, MOST_BUDGET),
+        HeaderLine::Limit => Field::Decimal(1, MOST_LIMIT),
+        HeaderLine::Stack => Field::Decimal(1, MOST_STACK),
+        HeaderLine::Heap => Field::Decimal(0, MOST_HEAP),
     }
 }
 

@@ -9,6 +9,7 @@ mod found;
 mod header;
 mod kinds;
 pub mod laws;
+pub mod limits;
 mod lines;
 mod match_line;
 mod place;
