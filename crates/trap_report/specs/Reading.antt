@@ -4,7 +4,7 @@ use Rattle.std.specs.Prelude.{ℕ, ◌+◌, ◌-◌, ◌*◌, ◌==◌, if◌the
 use Rattle.std.specs.List.{slice_split}
 use Rattle.elf_image.specs.declared.limits.TheConstants.{MOST_STACK, MOST_HEAP}
 use Rattle.syscall_drain.specs.declared.limits.TheConstants.{MOST_BUDGET}
-use Rattle.trap_report.specs.declared.limits.TheConstants.{MOST_CORES, MOST_LIMIT}
+use Rattle.trap_report.specs.declared.limits.TheConstants.{REPORTED_CORES, MOST_LIMIT}
 use Rattle.trap_report.specs.Text.{Numbers}
 use Rattle.trap_report.specs.Forms.{has_shape, forms_read}
 use Rattle.trap_report.specs.declared.report_line.HeaderLine.{HeaderLine}
@@ -41,7 +41,7 @@ abbrev pub any_number : Field
 any_number = Decimal 0 4294967295
 
 abbrev pub header_range : HeaderLine → Field
-header_range Cores = Decimal 1 MOST_CORES
+header_range Cores = Decimal 1 REPORTED_CORES
 header_range Budget = Decimal 1 MOST_BUDGET
 header_range Limit = Decimal 1 MOST_LIMIT
 header_range Stack = Decimal 1 MOST_STACK

@@ -1,6 +1,6 @@
 -- What holds of all reports (this project's own).
 use Rattle.std.specs.Prelude.{◌≡◌, ◌≢◌, ℕ, ◌^◌, ◌<◌, ◌≤◌, List, All, Ok, Err}
-use Rattle.trap_report.specs.declared.limits.TheConstants.{MOST_CORES, MOST_LIMIT}
+use Rattle.trap_report.specs.declared.limits.TheConstants.{REPORTED_CORES, MOST_LIMIT}
 use Rattle.machine.specs.Setups.{Setup, core_count, IsSetup}
 use Rattle.machine.specs.Runs.{IsPlayable}
 use Rattle.trap_report.specs.Text.{text, numbers_of}
@@ -16,7 +16,7 @@ OneOrder =
 pub record IsReportable (s : Setup) : Type 0 where
   pub setup : IsSetup s
   pub image : All (λ byte. byte < 2 ^ 8) s.program.layout.bytes
-  pub cores : core_count s ≤ MOST_CORES
+  pub cores : core_count s ≤ REPORTED_CORES
   pub limit : s.limit ≤ MOST_LIMIT
 
 -- a report reads back as the numbers of its setup and its order

@@ -2,7 +2,7 @@
 use Rattle.std.specs.Prelude.{◌≡◌, ◌<◌, ◌≤◌, All, Result, Ok, Err}
 use Rattle.elf_image.specs.declared.limits.TheConstants.{MOST_STACK, MOST_HEAP}
 use Rattle.syscall_drain.specs.declared.limits.TheConstants.{MOST_BUDGET}
-use Rattle.trap_report.specs.declared.limits.TheConstants.{MOST_CORES, MOST_LIMIT}
+use Rattle.trap_report.specs.declared.limits.TheConstants.{REPORTED_CORES, MOST_LIMIT}
 use Rattle.trap_report.specs.Text.{Numbers}
 use Rattle.trap_report.specs.Reading.{Reported, BadLine}
 use Rattle.trap_report.specs.declared.saved.Saved.{Saved}
@@ -23,7 +23,7 @@ IsReading said (Err NoMemory) = Unit {0}
 
 -- the ranges of the numbers of a header
 pub record HasRanges (numbers : Numbers) : Type 0 where
-  pub cores : (1 ≤ numbers.cores) × (numbers.cores ≤ MOST_CORES)
+  pub cores : (1 ≤ numbers.cores) × (numbers.cores ≤ REPORTED_CORES)
   pub budget : (1 ≤ numbers.budget) × (numbers.budget ≤ MOST_BUDGET)
   pub limit : (1 ≤ numbers.limit) × (numbers.limit ≤ MOST_LIMIT)
   pub stack : (1 ≤ numbers.stack) × (numbers.stack ≤ MOST_STACK)

@@ -9,7 +9,7 @@ ghost use Rattle.trap_report.specs.declared.form.Field.TheVariants.{Decimal};
 ghost use Rattle.trap_report.specs.declared.report_line.Section.TheVariants.{Calls, Ends, Traps, Units};
 
 use crate::form::{Field, ReportWord};
-use crate::limits::{MOST_CORES, MOST_LIMIT};
+use crate::limits::{MOST_LIMIT, REPORTED_CORES};
 use crate::match_line::form_read;
 use crate::report_line::{HeaderLine, Section};
 use crate::saved::ReportKind;
@@ -53,7 +53,7 @@ fn header_range(name: HeaderLine) -> Field
     ensures small { greatest (result ∷ []) < 2 ^ 32 }
 {
     match name {
-        HeaderLine::Cores => Field::Decimal(1, MOST_CORES),
+        HeaderLine::Cores => Field::Decimal(1, REPORTED_CORES),
         HeaderLine::Budget => Field::Decimal(1, MOST_BUDGET),
         HeaderLine::Limit => Field::Decimal(1, MOST_LIMIT),
         HeaderLine::Stack => Field::Decimal(1, MOST_STACK),
