@@ -1,6 +1,7 @@
 -- The memory map of an image as a text: its entry, its segments with their permissions, the break, the stack of each core, and how many words it has (this project's own).
 use Rattle.std.specs.Prelude.{ℕ, ◌-◌, ◌*◌, Bool, List, [], ◌∷◌, ◌++◌, codes, decimal, if◌then◌else◌}
 use Rattle.std.specs.List.{flat_map, range_with_len}
+use Rattle.elf_image.specs.declared.limits.TheConstants.{PAGE_BYTES}
 use Rattle.elf_image.specs.Elf.{segments, has_bits}
 use Rattle.elf_image.specs.Layout.{Layout, break_base, entry_of, heap_end, stack_top, words_of}
 use Rattle.elf_image.specs.declared.segments.Segment.{Segment}
@@ -20,7 +21,7 @@ abbrev pub segment_fields : Segment → List (List ℕ)
 segment_fields segment = codes "segment" ∷ hex 8 segment.start ∷ hex 8 segment.end ∷ permission_letters segment.flags ∷ []
 
 abbrev pub stack_fields : ℕ → ℕ → List (List ℕ)
-stack_fields pages core = codes "stack" ∷ decimal core ∷ hex 8 (stack_top core - 4096 * pages) ∷ hex 8 (stack_top core) ∷ []
+stack_fields pages core = codes "stack" ∷ decimal core ∷ hex 8 (stack_top core - PAGE_BYTES * pages) ∷ hex 8 (stack_top core) ∷ []
 
 abbrev pub segment_lines : List Segment → List ℕ
 segment_lines loaded = flat_map (λ segment. spelled (segment_fields segment)) loaded

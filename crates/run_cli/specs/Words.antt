@@ -2,6 +2,10 @@
 use Rattle.std.specs.Prelude.{◌≡◌, ℕ, List, [], ◌∷◌, Option, None, Some, codes}
 use Rattle.command_options.specs.Given.{Known, GivenOption, IsRead, required_option, other_option, value_given}
 use Rattle.command_options.specs.Numbers.{Tells}
+use Rattle.elf_image.specs.declared.limits.TheConstants.{MOST_STACK, MOST_HEAP}
+use Rattle.syscall_drain.specs.declared.limits.TheConstants.{MOST_BUDGET}
+use Rattle.trap_report.specs.declared.limits.TheConstants.{REPORTED_CORES, MOST_LIMIT}
+use Rattle.run_cli.specs.declared.limits.TheConstants.{MOST_LANE, USUAL_LANE, MOST_QUANTUM, USUAL_QUANTUM, USUAL_STACK, USUAL_HEAP}
 use Rattle.run_cli.specs.Asked.{ImageAsked, SetupAsked, RunAsked, ReplayAsked, Asked, Run, Replay, Inspect}
 
 abbrev pub run_table : List Known
@@ -42,21 +46,21 @@ IsNumber low high usual (Some text) n = Tells text low high n
 -- what options that are given ask for: an image, a setup, a run, a replay
 pub record AskForImage (given : List GivenOption) (asked : ImageAsked) : Type 0 where
   pub name : value_given given (codes "image") ≡ Some asked.name
-  pub cores : IsNumber 1 8 1 (value_given given (codes "cores")) asked.cores
-  pub stack : IsNumber 1 4096 16 (value_given given (codes "stack")) asked.stack
-  pub heap : IsNumber 0 4096 256 (value_given given (codes "heap")) asked.heap
+  pub cores : IsNumber 1 REPORTED_CORES 1 (value_given given (codes "cores")) asked.cores
+  pub stack : IsNumber 1 MOST_STACK USUAL_STACK (value_given given (codes "stack")) asked.stack
+  pub heap : IsNumber 0 MOST_HEAP USUAL_HEAP (value_given given (codes "heap")) asked.heap
 
 pub record AskForSetup (given : List GivenOption) (o : SetupAsked) : Type 0 where
   pub image : AskForImage given o.image
   pub input : value_given given (codes "input") ≡ o.input
   pub policy : value_given given (codes "policy") ≡ o.policy
-  pub budget : IsNumber 1 1048576 1048576 (value_given given (codes "budget")) o.budget
-  pub limit : IsNumber 1 4294967280 4294967280 (value_given given (codes "limit")) o.limit
+  pub budget : IsNumber 1 MOST_BUDGET MOST_BUDGET (value_given given (codes "budget")) o.budget
+  pub limit : IsNumber 1 MOST_LIMIT MOST_LIMIT (value_given given (codes "limit")) o.limit
 
 pub record AskForRun (given : List GivenOption) (o : RunAsked) : Type 0 where
   pub setup : AskForSetup given o.setup
-  pub lane : IsNumber 1 4096 64 (value_given given (codes "lane")) o.lane
-  pub quantum : IsNumber 1 4096 64 (value_given given (codes "quantum")) o.quantum
+  pub lane : IsNumber 1 MOST_LANE USUAL_LANE (value_given given (codes "lane")) o.lane
+  pub quantum : IsNumber 1 MOST_QUANTUM USUAL_QUANTUM (value_given given (codes "quantum")) o.quantum
 
 pub record AskForReplay (given : List GivenOption) (o : ReplayAsked) : Type 0 where
   pub image : value_given given (codes "image") ≡ Some o.image

@@ -9,6 +9,8 @@ use Rattle.tag_policy.specs.Grammar.{policy_of}
 use Rattle.machine.specs.Setups.{Setup}
 use Rattle.trap_report.specs.Text.{Numbers}
 use Rattle.trap_report.specs.Reading.{Reported, saved_of}
+use Rattle.syscall_drain.specs.declared.limits.TheConstants.{MOST_INPUT}
+use Rattle.run_cli.specs.declared.limits.TheConstants.{MOST_IMAGE, MOST_POLICY, MOST_REPORT}
 use Rattle.run_cli.specs.Seen.{FilesSeen}
 use Rattle.run_cli.specs.Asked.{ImageAsked, SetupAsked, ReplayAsked, Asked, Run, Replay, Inspect}
 use Rattle.run_cli.specs.declared.files.FileKind.{FileKind}
@@ -16,10 +18,10 @@ use Rattle.run_cli.specs.declared.files.FileKind.TheVariants.{Image, Policy, Inp
 
 -- the most bytes of a file
 abbrev pub most_bytes : FileKind → ℕ
-most_bytes Image = 33554432
-most_bytes Policy = 65536
-most_bytes Input = 16777216
-most_bytes Report = 536870912
+most_bytes Image = MOST_IMAGE
+most_bytes Policy = MOST_POLICY
+most_bytes Input = MOST_INPUT
+most_bytes Report = MOST_REPORT
 
 -- the file with this name has these bytes, where its contents are told, and no more than such a file may have
 pub record IsContents (files : FilesSeen) (kind : FileKind) (name bytes : List ℕ) : Type 0 where

@@ -6,8 +6,10 @@ ghost use Rattle.run_cli.specs.Asked.{Asked};
 ghost use Rattle.run_cli.specs.Causes.{ComesTo, Caused};
 
 use crate::ending::Ending;
+use crate::limits::{MOST_IMAGE, MOST_POLICY, MOST_REPORT};
 use outside::{FileFault, Files};
 use std::alloc::Global;
+use syscall_drain::limits::MOST_INPUT;
 
 /// The files that a command reads, by the option that names each.
 #[derive(Clone, Copy)]
@@ -23,10 +25,10 @@ fn most_bytes(kind: FileKind) -> usize
     ensures { result ≡ most_bytes kind }
 {
     match kind {
-        FileKind::Image => 33_554_432,
-        FileKind::Policy => 65_536,
-        FileKind::Input => 16_777_216,
-        FileKind::Report => 536_870_912,
+        FileKind::Image => MOST_IMAGE,
+        FileKind::Policy => MOST_POLICY,
+        FileKind::Input => MOST_INPUT as usize,
+        FileKind::Report => MOST_REPORT,
     }
 }
 

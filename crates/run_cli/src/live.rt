@@ -1,6 +1,7 @@
 //! The run of a setup, with a thread for each of its actors.
 ghost use Rattle.std.specs.Prelude.{◌≡◌, ◌≤◌, IfOk};
 ghost use Rattle.order_core.specs.CanonicalMerge.{canonical};
+ghost use Rattle.run_cli.specs.declared.limits.TheConstants.{MOST_LANE};
 ghost use Rattle.machine.specs.FinishedRuns.{IsFinishedRun};
 
 use inline_tracker::{Finished, Setup};
@@ -19,7 +20,7 @@ pub fn run_in_threads<G: Gate, X: Threads + Wait + Sync>(
     shape: RunShape,
     gate: &G,
 ) -> Result<Finished, NoMemory>
-    requires bound { (1 ≤ shape.bound) × (shape.bound ≤ 4096) }
+    requires bound { (1 ≤ shape.bound) × (shape.bound ≤ MOST_LANE) }
     requires quantum { 1 ≤ shape.quantum }
     ensures run { IfOk result (λ finished. IsFinishedRun setup.now finished.run) }
     ensures merged { IfOk result (λ finished. finished.run.order ≡ canonical finished.run.logs) }

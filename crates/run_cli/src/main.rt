@@ -6,6 +6,7 @@ mod deliver;
 mod dispatch;
 mod ending;
 mod files;
+mod limits;
 mod live;
 mod map_text;
 mod offline;

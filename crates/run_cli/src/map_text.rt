@@ -4,9 +4,11 @@ ghost use Rattle.elf_image.specs.Elf.{segments};
 ghost use Rattle.elf_image.specs.ImageFault.{IsAccepted};
 ghost use Rattle.trap_report.specs.Digits.{hex};
 ghost use Rattle.trap_report.specs.Fields.{spelled};
+ghost use Rattle.elf_image.specs.declared.limits.TheConstants.{MOST_STACK};
 ghost use Rattle.run_cli.specs.MapText.{entry_line, segment_lines, break_line, stack_lines, words_line, permission_letters, stack_fields, map_text};
 
 use elf_image::Image;
+use elf_image::limits::PAGE_BYTES;
 use trap_report::Block;
 
 /// The letters of what may be done with a segment of these flags.
@@ -37,14 +39,14 @@ fn push_segment(block: &mut Block, start: u32, end: u32, flags: u32)
 fn push_stack(block: &mut Block, core: u8, pages: u32)
     requires room { length block.old ≤ 4000 }
     requires cores { core < 32 }
-    requires pages { pages ≤ 4096 }
+    requires pages { pages ≤ MOST_STACK }
     ensures text { block.new ≡ block.old ++ spelled (stack_fields pages core) }
     ensures len { length block.new ≤ length block.old + 28 }
 {
     let top = 0xF000_0000 - u32::from(core) * 0x0200_0000;
     block.push_text(b"stack");
     block.number_field(core);
-    block.hex_field(u128::from(top - 4096 * pages), 8);
+    block.hex_field(u128::from(top - PAGE_BYTES * pages), 8);
     block.hex_field(u128::from(top), 8);
     block.end_line();
 }
@@ -80,7 +82,7 @@ fn push_segments(block: &mut Block, image: &Image)
 fn push_stacks(block: &mut Block, cores: u8, pages: u32)
     requires room { length block.old ≤ 2048 }
     requires cores { cores ≤ 32 }
-    requires pages { pages ≤ 4096 }
+    requires pages { pages ≤ MOST_STACK }
     ensures text { block.new ≡ block.old ++ stack_lines pages cores }
     ensures len { length block.new ≤ 2944 }
 {

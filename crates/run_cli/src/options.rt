@@ -1,5 +1,9 @@
 //! The options of a command.
 ghost use Rattle.std.specs.Prelude.{◌≤◌};
+ghost use Rattle.elf_image.specs.declared.limits.TheConstants.{MOST_STACK, MOST_HEAP};
+ghost use Rattle.syscall_drain.specs.declared.limits.TheConstants.{MOST_BUDGET};
+ghost use Rattle.trap_report.specs.declared.limits.TheConstants.{REPORTED_CORES, MOST_LIMIT};
+ghost use Rattle.run_cli.specs.declared.limits.TheConstants.{MOST_LANE};
 
 /// The image that a command asks for, and the numbers of its map in their ranges.
 #[derive(Clone, Copy)]
@@ -9,10 +13,10 @@ pub struct ImageOptions<'a> {
     pub stack: u32,
     pub heap: u32,
     ghost some_cores: { 1 ≤ cores },
-    ghost most_cores: { cores ≤ 8 },
+    ghost most_cores: { cores ≤ REPORTED_CORES },
     ghost some_stack: { 1 ≤ stack },
-    ghost most_stack: { stack ≤ 4096 },
-    ghost most_heap: { heap ≤ 4096 },
+    ghost most_stack: { stack ≤ MOST_STACK },
+    ghost most_heap: { heap ≤ MOST_HEAP },
 }
 
 /// What a run is of: its image, the names of its other files, and its numbers in their ranges.
@@ -24,9 +28,9 @@ pub struct SetupOptions<'a> {
     pub budget: u32,
     pub limit: u32,
     ghost some_budget: { 1 ≤ budget },
-    ghost most_budget: { budget ≤ 1048576 },
+    ghost most_budget: { budget ≤ MOST_BUDGET },
     ghost some_limit: { 1 ≤ limit },
-    ghost most_limit: { limit ≤ 4294967280 },
+    ghost most_limit: { limit ≤ MOST_LIMIT },
 }
 
 /// The options of a run: how many records wait for a tag actor at most, and how many units or records a turn has.
@@ -36,7 +40,7 @@ pub struct RunOptions<'a> {
     pub lane: u32,
     pub quantum: u32,
     ghost some_lane: { 1 ≤ lane },
-    ghost most_lane: { lane ≤ 4096 },
+    ghost most_lane: { lane ≤ MOST_LANE },
     ghost some_quantum: { 1 ≤ quantum },
 }
 

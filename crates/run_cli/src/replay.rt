@@ -5,6 +5,7 @@ ghost use Rattle.machine.specs.Runs.{IsPlayable};
 ghost use Rattle.machine.specs.FinishedRuns.{IsFinishedRun};
 ghost use Rattle.trap_report.specs.Reading.{saved_of};
 ghost use Rattle.trap_report.specs.Saved.{HasRanges, AreInRange, reported_by};
+ghost use Rattle.machine.specs.declared.limits.TheConstants.{MOST_UNITS};
 ghost use Rattle.run_cli.specs.Seen.{files_seen};
 ghost use Rattle.run_cli.specs.Asked.{Asked, replay_in, setup_in};
 ghost use Rattle.run_cli.specs.Work.{setup_told};
@@ -86,7 +87,7 @@ fn step_along(tracker: &mut Tracker<'_>, order: &[u8]) -> usize
 
 /// The ending where an order stops after so many units.
 fn stopped(units: usize) -> Ending
-    requires { units ≤ 8388608 }
+    requires { units ≤ MOST_UNITS }
     ensures { result ≡ Ending.Report (units + 8) ReportKind.Order }
 {
     Ending::Report {

@@ -5,6 +5,7 @@ ghost use Rattle.elf_image.specs.ImageFault.{IsAccepted};
 ghost use Rattle.tag_policy.specs.Policies.{policy_in, standard_policy};
 ghost use Rattle.tag_policy.specs.Rules.{PolicySeen};
 ghost use Rattle.machine.specs.Setups.{IsSetup};
+ghost use Rattle.syscall_drain.specs.declared.limits.TheConstants.{MOST_INPUT};
 ghost use Rattle.run_cli.specs.Seen.{files_seen};
 ghost use Rattle.run_cli.specs.Asked.{Asked, image_in, setup_in};
 ghost use Rattle.run_cli.specs.Work.{layout_with, setup_of, IsImage, IsPolicy, IsInput, IsSetupOf, AsksForImage, AsksForSetup, HasImage, HasPolicy};
@@ -93,7 +94,7 @@ fn input_of<F: Files>(
     files: &mut F,
 ) -> Result<Vec<u8>, Ending>
     ensures read { IfOk result (λ input. IsInput (files_seen (F.held files.old) (F.faults files.old)) (setup_in options.now).input input.items) }
-    ensures short { IfOk result (λ input. length input.items ≤ 16777216) }
+    ensures short { IfOk result (λ input. length input.items ≤ MOST_INPUT) }
     ensures same { OnOk result (files_seen (F.held files.new) (F.faults files.new) ≡ files_seen (F.held files.old) (F.faults files.old)) }
     ensures refused { (asked : Asked) (image : Layout) (policy : PolicySeen) → HasPolicy (files_seen (F.held files.old) (F.faults files.old)) asked (setup_in options.now) image policy
         → IfErr result (Caused asked (files_seen (F.held files.old) (F.faults files.old)) (files_seen (F.held files.new) (F.faults files.new))) }
@@ -108,7 +109,7 @@ fn input_of<F: Files>(
 fn setup_with(options: &SetupOptions<'_>, image: Image, policy: Policy, input: Vec<u8>) -> Setup
     requires numbers { image ≡ layout_with (image_in options.now.image) image.bytes }
     requires accepted { IsAccepted image }
-    requires short { length input.items ≤ 16777216 }
+    requires short { length input.items ≤ MOST_INPUT }
     ensures { result ≡ setup_of (setup_in options.now) image (policy_in policy) input.items }
 {
     let guest = Guest::new(image, input);

@@ -6,9 +6,13 @@ ghost use Rattle.run_cli.specs.Words.{IsNumber, AskForImage, AskForSetup, AskFor
 ghost use Rattle.run_cli.specs.Forms.{SaysNothing, words_ending};
 
 use crate::ending::Ending;
+use crate::limits::{MOST_LANE, MOST_QUANTUM, USUAL_HEAP, USUAL_LANE, USUAL_QUANTUM, USUAL_STACK};
 use crate::options::{ImageOptions, OfflineCommand, ReplayOptions, RunOptions, SetupOptions};
 use command_options::{OptionRow, Options, WordsFault, number_in, read_options};
+use elf_image::limits::{MOST_HEAP, MOST_STACK};
 use std::alloc::Global;
+use syscall_drain::limits::MOST_BUDGET;
+use trap_report::limits::{MOST_LIMIT, REPORTED_CORES};
 
 /// The options of a run.
 const RUN: [OptionRow<'static>; 10] = [
@@ -115,9 +119,9 @@ fn image_asked<'a>(options: &Options<'a>) -> Option<ImageOptions<'a>>
 {
     Some(ImageOptions {
         name: options.value("image")?,
-        cores: number(options, "cores", 1, 8, 1)? as u8,
-        stack: number(options, "stack", 1, 4096, 16)?,
-        heap: number(options, "heap", 0, 4096, 256)?,
+        cores: number(options, "cores", 1, REPORTED_CORES, 1)? as u8,
+        stack: number(options, "stack", 1, MOST_STACK, USUAL_STACK)?,
+        heap: number(options, "heap", 0, MOST_HEAP, USUAL_HEAP)?,
     })
 }
 
@@ -129,8 +133,8 @@ fn setup_asked<'a>(options: &Options<'a>) -> Option<SetupOptions<'a>>
         image: image_asked(options)?,
         input: options.value("input"),
         policy: options.value("policy"),
-        budget: number(options, "budget", 1, 1_048_576, 1_048_576)?,
-        limit: number(options, "limit", 1, 4_294_967_280, 4_294_967_280)?,
+        budget: number(options, "budget", 1, MOST_BUDGET, MOST_BUDGET)?,
+        limit: number(options, "limit", 1, MOST_LIMIT, MOST_LIMIT)?,
     })
 }
 
@@ -140,8 +144,8 @@ fn run_asked<'a>(options: &Options<'a>) -> Option<RunOptions<'a>>
 {
     Some(RunOptions {
         setup: setup_asked(options)?,
-        lane: number(options, "lane", 1, 4096, 64)?,
-        quantum: number(options, "quantum", 1, 4096, 64)?,
+        lane: number(options, "lane", 1, MOST_LANE, USUAL_LANE)?,
+        quantum: number(options, "quantum", 1, MOST_QUANTUM, USUAL_QUANTUM)?,
     })
 }
 
