@@ -6,7 +6,7 @@ ghost use Rattle.run_cli.specs.Forms.{Delivered};
 
 use crate::ending::Ending;
 use crate::prepare::Run;
-use inline_tracker::exit_status;
+use inline_tracker::status_of;
 use outside::{Sink, write_whole};
 use trap_report::write_report;
 
@@ -24,5 +24,5 @@ pub fn deliver<O: Sink, R: Sink>(run: &mut Run, out: &mut O, report: &mut R) -> 
     let Ok(()) = write_report(report, &run.setup, &mut run.finished) else {
         return Ending::Write;
     };
-    Ending::Class(exit_status(&run.finished))
+    Ending::Class(status_of(&run.finished))
 }

@@ -8,5 +8,5 @@ returns g c =
     (rw (← c.output.ensures, ← c.as_slice.ensures.items) (search rules))
     (search rules)
     (search rules)
-    (rw c.write_report.ensures.same at c.exit_status.ensures.class)
-    c.exit_status.ensures.within
+    (rw c.write_report.ensures.same at c.status_of.ensures.class)
+    c.status_of.ensures.within
