@@ -4,7 +4,7 @@ use Rattle.std.specs.Prelude.{All}
 use Rattle.std.proofs.lemmas.List.{length-map}
 use Rattle.std.proofs.lemmas.Nat.{mul-le}
 use Rattle.std.proofs.lemmas.Bool.Decides.{nat_tests}
-use Rattle.command_options.specs.Given.{Given}
+use Rattle.command_options.specs.Given.{GivenOption}
 use Rattle.outside.specs.Files.{IsTold}
 use Rattle.elf_image.specs.Layout.{Layout}
 use Rattle.tag_policy.specs.Rules.{PolicySeen}
@@ -103,7 +103,7 @@ held_bytes (Some contents) bytes some told all = subst (All (λ byte. byte < 2 ^
 
 -- ---- the law
 
-reportable : (files : FilesSeen) (o : SetupAsked) (s : Setup) (given : List Given) → AskForSetup given o → IsSetupOf files o s → All (λ byte. byte < 2 ^ 8) s.program.layout.bytes → IsReportable s
+reportable : (files : FilesSeen) (o : SetupAsked) (s : Setup) (given : List GivenOption) → AskForSetup given o → IsSetupOf files o s → All (λ byte. byte < 2 ^ 8) s.program.layout.bytes → IsReportable s
 reportable files o s given asks is bytes =
     let cores : core_count s ≡ o.image.cores = ap (λ (l : Layout). l.cores) is.image_is.numbers in
     let budget : s.budget ≡ o.budget = ap (λ (t : Setup). t.budget) is.setup_is in
@@ -141,7 +141,7 @@ setup_kept old new run replay s files is = record {
 }
 
 -- the report of a complete order of a setup that was asked for
-can_be_replayed : (old : FilesSeen) (run : SetupAsked) (s : Setup) (order : List ℕ) (given : List Given) → AskForSetup given run → IsSetupOf old run s → IsComplete s order → CanBeReplayed old run (text s order)
+can_be_replayed : (old : FilesSeen) (run : SetupAsked) (s : Setup) (order : List ℕ) (given : List GivenOption) → AskForSetup given run → IsSetupOf old run s → IsComplete s order → CanBeReplayed old run (text s order)
 can_be_replayed old run s order given asks is complete words replay files reads kept held short =
     let contents = contents_kept old files ImageFile run.image.name s.program.layout.bytes kept.image_kept is.image_is.contents in
     let bytes = held_bytes (files.held run.image.name) s.program.layout.bytes kept.image_kept.0 contents.told kept.bytes in
