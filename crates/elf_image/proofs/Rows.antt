@@ -1,25 +1,12 @@
--- The definitions at a worked image of ten words, whose front is that of a file with one segment: what they give is what the memory map says.
-use Rattle.std.proofs.Common.{◌≡◌, ℕ, ◌++◌, List, [], ◌∷◌, Some, None, true, refl}
+-- The definitions at the small image of `HI`: what they give is what the memory map says.
+use Rattle.std.proofs.Common.{◌≡◌, Some, None, true, refl}
+use Rattle.guest_images.specs.Files.{small_image}
+use Rattle.guest_images.specs.declared.programs.TheConstants.{HI}
 use Rattle.elf_image.specs.Elf.{program_headers, segments}
 use Rattle.elf_image.specs.Layout.{Layout, is_mapped, is_executable_page, is_writable_page, is_writable, count_below, nth_from, word_of, word_at, address_of, first_word, fetched, entry_of, break_base, heap_end}
 
-abbrev front : List ℕ
-front =
-    0x7f ∷ 0x45 ∷ 0x4c ∷ 0x46 ∷ 1 ∷ 1 ∷ 1 ∷ 0 ∷ 0 ∷ 0 ∷ 0 ∷ 0 ∷ 0 ∷ 0 ∷ 0 ∷ 0
-    ∷ 2 ∷ 0 ∷ 0xf3 ∷ 0 ∷ 1 ∷ 0 ∷ 0 ∷ 0 ∷ 0 ∷ 0 ∷ 1 ∷ 0 ∷ 0x34 ∷ 0 ∷ 0 ∷ 0
-    ∷ 0 ∷ 0 ∷ 0 ∷ 0 ∷ 0 ∷ 0 ∷ 0 ∷ 0 ∷ 0x34 ∷ 0 ∷ 0x20 ∷ 0 ∷ 1 ∷ 0 ∷ 0 ∷ 0
-    ∷ 0 ∷ 0 ∷ 0 ∷ 0
-    ∷ 1 ∷ 0 ∷ 0 ∷ 0 ∷ 0x54 ∷ 0 ∷ 0 ∷ 0 ∷ 0 ∷ 0 ∷ 1 ∷ 0 ∷ 0 ∷ 0 ∷ 1 ∷ 0
-    ∷ 40 ∷ 0 ∷ 0 ∷ 0 ∷ 40 ∷ 0 ∷ 0 ∷ 0 ∷ 7 ∷ 0 ∷ 0 ∷ 0 ∷ 4 ∷ 0 ∷ 0 ∷ 0 ∷ []
-
-abbrev hello : List ℕ
-hello =
-    0xb7 ∷ 0x05 ∷ 0x01 ∷ 0x00 ∷ 0x93 ∷ 0x85 ∷ 0x45 ∷ 0x02 ∷ 0x13 ∷ 0x05 ∷ 0x10 ∷ 0x00 ∷ 0x13 ∷ 0x06 ∷ 0x30 ∷ 0x00
-    ∷ 0x93 ∷ 0x08 ∷ 0x00 ∷ 0x04 ∷ 0x73 ∷ 0x00 ∷ 0x00 ∷ 0x00 ∷ 0x13 ∷ 0x05 ∷ 0x00 ∷ 0x00 ∷ 0x93 ∷ 0x08 ∷ 0xd0 ∷ 0x05
-    ∷ 0x73 ∷ 0x00 ∷ 0x00 ∷ 0x00 ∷ 0x68 ∷ 0x69 ∷ 0x0a ∷ 0x00 ∷ []
-
 abbrev layout : Layout
-layout = record { bytes = front ++ hello; cores = 1; stack = 16; heap = 256 }
+layout = record { bytes = small_image HI; cores = 1; stack = 16; heap = 256 }
 
 the_break_base : break_base layout ≡ 0x11000
 unfolding segments program_headers

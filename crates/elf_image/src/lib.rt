@@ -11,8 +11,6 @@ mod loading;
 mod memory_image;
 mod page_table;
 mod segments;
-#[cfg(test)]
-mod tests;
 mod validation;
 
 pub use crate::fault::ImageFault;

@@ -6,8 +6,6 @@ mod note;
 mod output;
 mod parts;
 mod stage;
-#[cfg(test)]
-mod tests;
 mod turn;
 mod ward;
 

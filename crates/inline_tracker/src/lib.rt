@@ -13,8 +13,6 @@ mod seat;
 mod setup;
 mod status;
 mod step;
-#[cfg(test)]
-mod tests;
 mod tracker;
 mod unit;
 

@@ -2,6 +2,7 @@
 ghost use Rattle.std.specs.Prelude.{◌≡◌, ◌+◌, ◌<◌, ◌≤◌, [], ◌∷◌, ◌++◌, IfOk, OnOk};
 ghost use Rattle.machine.specs.Setups.{core_count};
 ghost use Rattle.record_lane.specs.Rings.{bound_of};
+ghost use Rattle.record_lane.specs.declared.limits.TheConstants.{MOST_LANE};
 ghost use Rattle.live_run.specs.Seats.{IsSeat};
 ghost use Rattle.live_run.specs.Beginnings.{IsNewHart, IsNewFollower, HaveBound, HavePasses, AreFirstSeats};
 
@@ -39,7 +40,7 @@ fn first_seat(
     core: u8,
     bound: u32,
 ) -> Result<Seat, NoMemory>
-    requires bound { (1 ≤ bound) × (bound ≤ 4096) }
+    requires bound { (1 ≤ bound) × (bound ≤ MOST_LANE) }
     requires core { core < core_count setup.now }
     requires passes { HavePasses setup.now core tables.old }
     ensures passes { OnOk result (HavePasses setup.now (core + 1) tables.new) }
@@ -112,7 +113,7 @@ pub(crate) fn first_seats(
     tables: &mut Tables,
     bound: u32,
 ) -> Result<Seats, NoMemory>
-    requires bound { (1 ≤ bound) × (bound ≤ 4096) }
+    requires bound { (1 ≤ bound) × (bound ≤ MOST_LANE) }
     requires passes { HavePasses setup.now 0 tables.old }
     ensures tables { OnOk result ((tables.new.memory ≡ tables.old.memory) × (tables.new.tags ≡ tables.old.tags)) }
     ensures seats { IfOk result (AreFirstSeats setup.now tables.old.memory tables.old.tags (core_count setup.now)) }

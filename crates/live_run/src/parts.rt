@@ -1,6 +1,7 @@
 //! The parts of a run: its tables, and the actors of its cores.
 ghost use Rattle.std.specs.Prelude.{◌≡◌, ◌≤◌, ◌↔◌, IsTrue, IfOk};
 ghost use Rattle.live_run.specs.Seats.{HaveEnded, HaveAllEnded, HaveAllFollowed};
+ghost use Rattle.record_lane.specs.declared.limits.TheConstants.{MOST_LANE};
 ghost use Rattle.live_run.specs.Beginnings.{AreNew, HaveBound};
 
 use crate::actors::Actors;
@@ -47,7 +48,7 @@ impl<'a> LiveParts<'a> {
         setup: &'a Setup,
         shape: RunShape,
     ) -> Result<LiveParts<'a>, NoMemory>
-        requires bound { (1 ≤ shape.bound) × (shape.bound ≤ 4096) }
+        requires bound { (1 ≤ shape.bound) × (shape.bound ≤ MOST_LANE) }
         requires quantum { 1 ≤ shape.quantum }
         ensures setup { IfOk result (λ parts. parts.setup ≡ setup.entry.now) }
         ensures bound { IfOk result (λ parts. HaveBound shape.bound parts.items) }

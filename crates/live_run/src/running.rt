@@ -3,6 +3,7 @@ ghost use Rattle.live_run.specs.Parts.{HasRunTo};
 
 use crate::actors::{drive_all, run_all};
 use crate::parts::LiveParts;
+use crate::turns::TurnsOfAll;
 use outside::Gate;
 use std::sync::Wait;
 use std::thread::Threads;
@@ -25,6 +26,6 @@ pub fn drive<'a, G: Gate, X: Wait>(rt: &X, parts: LiveParts<'a>, gate: &G) -> Li
     ensures { HasRunTo parts.entry result }
 {
     let actors = parts.actors;
-    let actors = drive_all(rt, &parts.objects, actors, gate);
+    let actors = drive_all(rt, &parts.objects, actors, gate, TurnsOfAll::none());
     LiveParts { actors, ..parts }
 }

@@ -11,6 +11,7 @@ use guest_images::{COUNT, HI, JUMP, LRSC, PASS, STORE_BUFFERING, small_image};
 use inline_tracker::{CoreOutcome, Finished, Setup, Stepped, Tracker, status_of};
 use outside::OpenGate;
 use record_lane::Trap;
+use record_lane::limits::MOST_LANE;
 use std::alloc::Global;
 use std::test::Fail;
 use syscall_drain::Guest;
@@ -67,7 +68,7 @@ fn parts_of<'a>(
 ) -> Result<LiveParts<'a>, Fail>
     ensures { IfOk result (λ parts. parts.setup ≡ setup.entry.now) }
 {
-    if bound < 1 || bound > 4096 || quantum < 1 {
+    if bound < 1 || bound > MOST_LANE || quantum < 1 {
         return Err(Fail::new("no shape of a run"));
     }
     Ok(LiveParts::create(alloc, setup, RunShape { bound, quantum })?)

@@ -43,14 +43,14 @@ impl Pause {
     }
 }
 
-/// Passes the gate and has a turn, if the actor has not ended.
+/// Passes the gate and has a turn, if the actor has not ended. `turns` is how many it has had.
 pub(crate) fn pass_and_visit<A: Actor<S>, S, G: Gate, R: Wait>(
     rt: &R,
     actor: &mut A,
     place: &S,
     core: u8,
     gate: &G,
-    turn: u64,
+    turns: &mut u64,
 ) -> Visit
     requires { A.fits place.now core actor.old }
     ensures same { A.same actor.old actor.new }
@@ -59,11 +59,12 @@ pub(crate) fn pass_and_visit<A: Actor<S>, S, G: Gate, R: Wait>(
     if actor.ended() {
         return Visit::Ended;
     }
-    gate.before(A::who(core), turn, actor.done());
+    gate.before(A::who(core), *turns, actor.done());
+    *turns = turns.saturating_add(1);
     actor.visit(rt, place, usize::from(core))
 }
 
-/// Gives an actor turns until it has ended or all actors are called back.
+/// Gives an actor turns until it has ended or all actors are called back. Answers how many it has had.
 pub(crate) fn work<A: Actor<S>, S, G: Gate, R: Wait>(
     rt: &R,
     mut actor: A,
@@ -71,22 +72,21 @@ pub(crate) fn work<A: Actor<S>, S, G: Gate, R: Wait>(
     core: u8,
     gate: &G,
     recall: &AtomicBool,
-) -> A
+) -> (A, u64)
     requires { A.fits place.now core actor }
-    ensures { A.same actor result }
+    ensures { A.same actor result.0 }
 {
     let mut pause = Pause::new();
-    let mut turn = 0u64;
+    let mut turns = 0u64;
     'turns: for _ in rt.forever() {
         if recall.load(Ordering::SeqCst) {
-            return actor;
+            return (actor, turns);
         }
-        match pass_and_visit(rt, &mut actor, place, core, gate, turn) {
+        match pass_and_visit(rt, &mut actor, place, core, gate, &mut turns) {
             Visit::Went => pause.reset(),
             Visit::Waits => pause.wait(),
-            Visit::Ended => return actor,
+            Visit::Ended => return (actor, turns),
         }
-        turn = turn.saturating_add(1);
     }
     unreachable!()
 }

@@ -8,8 +8,6 @@ mod merge_room;
 mod numbers;
 mod shape;
 mod system;
-#[cfg(test)]
-mod tests;
 mod waiting;
 mod walk;
 

@@ -48,6 +48,7 @@ fn cut<T: Item, N: Numbers>(
 
 impl<T: Item> Lane<T> {
     ghost use Rattle.std.specs.Prelude.{◌^◌, ◌<◌, ◌≤◌, ◌+◌, ◌∷◌, ◌++◌, length, IfOk};
+    ghost use Rattle.record_lane.specs.declared.limits.TheConstants.{MOST_LANE};
     ghost use Rattle.record_lane.specs.Histories.{IsPrefix, OnSent, IfFull, IfItem, OnEmpty};
     ghost use Rattle.record_lane.specs.Lanes.{bound_of, word_count_of, top_of, sent_by, gone_by, taken_by, seen_by, left_in, IsSenderOf, IsTakerOf, WasFull, WasEmpty};
 
@@ -58,7 +59,7 @@ impl<T: Item> Lane<T> {
         words: u32,
         top: u32,
     ) -> Result<(Lane<T>, Sender<T>, Taker<T>), NoMemory>
-        requires { (0 < bound) × (bound ≤ 4096) }
+        requires { (0 < bound) × (bound ≤ MOST_LANE) }
         ensures numbers { IfOk result (λ made. (bound_of made.0 ≡ bound) × (word_count_of made.0 ≡ words) × (top_of made.0 ≡ top)) }
         ensures sender { IfOk result (λ made. IsSenderOf made.0 made.1 × (sent_by made.1 ≡ []) × (gone_by made.1 ≡ 0)) }
         ensures taker { IfOk result (λ made. IsTakerOf made.0 made.2 × (taken_by made.2 ≡ []) × (seen_by made.2 ≡ [])) }

@@ -8,6 +8,7 @@ mod lane;
 mod lane_left;
 mod lane_rule;
 mod lane_token;
+pub mod limits;
 mod note;
 mod record;
 mod reply;
@@ -16,8 +17,6 @@ mod ring_left;
 mod ring_rule;
 mod ring_step;
 mod ring_token;
-#[cfg(test)]
-mod tests;
 
 pub use answer::{Got, Sent};
 pub use item::Item;

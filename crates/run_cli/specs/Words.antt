@@ -5,7 +5,8 @@ use Rattle.command_options.specs.Numbers.{Tells}
 use Rattle.elf_image.specs.declared.limits.TheConstants.{MOST_STACK, MOST_HEAP}
 use Rattle.syscall_drain.specs.declared.limits.TheConstants.{MOST_BUDGET}
 use Rattle.trap_report.specs.declared.limits.TheConstants.{REPORTED_CORES, MOST_LIMIT}
-use Rattle.run_cli.specs.declared.limits.TheConstants.{MOST_LANE, USUAL_LANE, MOST_QUANTUM, USUAL_QUANTUM, USUAL_STACK, USUAL_HEAP}
+use Rattle.record_lane.specs.declared.limits.TheConstants.{MOST_LANE}
+use Rattle.run_cli.specs.declared.limits.TheConstants.{USUAL_LANE, MOST_QUANTUM, USUAL_QUANTUM, USUAL_STACK, USUAL_HEAP}
 use Rattle.run_cli.specs.Asked.{ImageAsked, SetupAsked, RunAsked, ReplayAsked, Asked, Run, Replay, Inspect}
 
 abbrev pub run_table : List Known

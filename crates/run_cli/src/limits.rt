@@ -1,8 +1,6 @@
 //! The limits and the usual values of what a command line asks for, where no lower layer has them (this project's own).
 
-/// The records that wait for a tag actor.
-pub const MOST_LANE: u32 = 4096;
-
+/// The records that wait for a tag actor, where nothing is asked for.
 pub const USUAL_LANE: u32 = 64;
 
 /// The units or records of a turn.

@@ -1,7 +1,7 @@
 //! The run of a setup, with a thread for each of its actors.
 ghost use Rattle.std.specs.Prelude.{◌≡◌, ◌≤◌, IfOk};
 ghost use Rattle.order_core.specs.CanonicalMerge.{canonical};
-ghost use Rattle.run_cli.specs.declared.limits.TheConstants.{MOST_LANE};
+ghost use Rattle.record_lane.specs.declared.limits.TheConstants.{MOST_LANE};
 ghost use Rattle.machine.specs.FinishedRuns.{IsFinishedRun};
 
 use inline_tracker::{Finished, Setup};

@@ -3,7 +3,7 @@ ghost use Rattle.std.specs.Prelude.{◌≤◌};
 ghost use Rattle.elf_image.specs.declared.limits.TheConstants.{MOST_STACK, MOST_HEAP};
 ghost use Rattle.syscall_drain.specs.declared.limits.TheConstants.{MOST_BUDGET};
 ghost use Rattle.trap_report.specs.declared.limits.TheConstants.{REPORTED_CORES, MOST_LIMIT};
-ghost use Rattle.run_cli.specs.declared.limits.TheConstants.{MOST_LANE};
+ghost use Rattle.record_lane.specs.declared.limits.TheConstants.{MOST_LANE};
 
 /// The image that a command asks for, and the numbers of its map in their ranges.
 #[derive(Clone, Copy)]

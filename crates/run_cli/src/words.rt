@@ -6,10 +6,11 @@ ghost use Rattle.run_cli.specs.Words.{IsNumber, AskForImage, AskForSetup, AskFor
 ghost use Rattle.run_cli.specs.Forms.{SaysNothing, words_ending};
 
 use crate::ending::Ending;
-use crate::limits::{MOST_LANE, MOST_QUANTUM, USUAL_HEAP, USUAL_LANE, USUAL_QUANTUM, USUAL_STACK};
+use crate::limits::{MOST_QUANTUM, USUAL_HEAP, USUAL_LANE, USUAL_QUANTUM, USUAL_STACK};
 use crate::options::{ImageOptions, OfflineCommand, ReplayOptions, RunOptions, SetupOptions};
 use command_options::{OptionRow, Options, WordsFault, number_in, read_options};
 use elf_image::limits::{MOST_HEAP, MOST_STACK};
+use record_lane::limits::MOST_LANE;
 use std::alloc::Global;
 use syscall_drain::limits::MOST_BUDGET;
 use trap_report::limits::{MOST_LIMIT, REPORTED_CORES};

@@ -13,6 +13,3 @@ pub use decoding::decode;
 pub use encoding::encode;
 pub use insn::{AmoKind, BranchKind, Class, ImmKind, Insn, LoadKind, RegKind, StoreKind};
 pub use ranges::fits;
-
-#[cfg(test)]
-mod tests;

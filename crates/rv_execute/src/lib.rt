@@ -10,8 +10,6 @@ mod lanes;
 mod op;
 mod payload;
 mod start;
-#[cfg(test)]
-mod tests;
 mod touched;
 
 pub use ask::Ask;

@@ -24,6 +24,3 @@ pub use ask::{Answer, CoreAsk, Made, NextUnit};
 pub use core_state::CoreState;
 pub use end::End;
 pub use guest::Guest;
-
-#[cfg(test)]
-mod tests;

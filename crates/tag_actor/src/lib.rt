@@ -11,6 +11,3 @@ mod turning;
 
 pub use actor::{TagActor, TagParts};
 pub use answer::TagTurn;
-
-#[cfg(test)]
-mod tests;

@@ -18,6 +18,3 @@ pub use kinds::Kinds;
 pub use policy::Policy;
 pub use reading::read_policy;
 pub use rules::{Change, Check, Mode, Rules, Version};
-
-#[cfg(test)]
-mod tests;

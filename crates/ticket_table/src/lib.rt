@@ -10,8 +10,6 @@ mod pass;
 mod rule;
 mod served;
 mod steps;
-#[cfg(test)]
-mod tests;
 mod tickets;
 mod word;
 

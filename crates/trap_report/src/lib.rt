@@ -25,4 +25,5 @@ pub use difference::first_difference;
 pub use reader::read_report;
 pub use report_line::{HeaderLine, ReportLine, Section};
 pub use saved::{ReportFault, ReportKind, Saved};
+pub use spelling::{ROOM_BEFORE_LINE, push_line};
 pub use writer::write_report;

@@ -47,6 +47,3 @@ fn read_rest(lines: &mut Lines<'_>, last: u32) -> Result<(), ReportFault>
     skip_section(lines, Section::Ends, last)?;
     read_last(lines)
 }
-
-#[cfg(test)]
-mod tests;

@@ -161,6 +161,3 @@ fn verdict_name(stop: bool) -> &'static [u8]
 {
     if stop { b"stop" } else { b"go" }
 }
-
-#[cfg(test)]
-mod tests;

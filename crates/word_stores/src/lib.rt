@@ -4,8 +4,6 @@
 
 mod shared_memory;
 mod tag_memory;
-#[cfg(test)]
-mod tests;
 
 pub use bounded_list::NoMemory;
 pub use shared_memory::SharedMemory;

@@ -51,7 +51,7 @@ fn turn_at<A: Actor<S>, S, R: Wait>(rt: &R, actors: &mut [A], place: &S, core: u
 {
     let at = usize::from(core);
     if at < actors.len() {
-        pass_and_visit(rt, &mut actors[at], place, core, &OpenGate, 0);
+        pass_and_visit(rt, &mut actors[at], place, core, &OpenGate, &mut 0);
     }
 }
 

@@ -132,6 +132,37 @@ fn the_shortest_ring_and_turn_count_to_two_thousand(rt: HostRuntime) -> Result<(
     Ok(())
 }
 
+/// Whether the order of a run, from where it stands, has this many units of core 0, and then as many of core 1.
+fn is_one_core_after_the_other(finished: &mut Finished, units: u32) -> bool {
+    for core in 0..2 {
+        for _ in 0..units {
+            if finished.next_core() != Some(core) {
+                return false;
+            }
+        }
+    }
+    finished.next_core().is_none()
+}
+
+#[test]
+fn the_order_of_a_run_is_the_canonical_merge(rt: HostRuntime) -> Result<(), Fail> {
+    let alloc = rt.alloc();
+    let row = Row {
+        class: Some(0),
+        output: b"hi\nhi\n",
+        ..quiet("hi", &HI, 2, 26)
+    };
+    let setup = setup_of(alloc, &row)?;
+    let parts = driven(&rt, alloc, &setup, 1, 1)?;
+    let mut finished = assemble(parts);
+    // The cores had their units in turn. No access of core 0 comes after one of core 1.
+    assert!(rt; is_one_core_after_the_other(&mut finished, 13));
+    finished.rewind();
+    let fault = fault_of(alloc, &setup, finished, &row)?;
+    assert_eq!(rt; fault, None);
+    Ok(())
+}
+
 /// Runs a row in threads with a shape. Answers in what it is other than it should be.
 fn fault_in_threads<X: Threads + Wait + Sync>(
     rt: &X,
