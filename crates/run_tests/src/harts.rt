@@ -1,10 +1,15 @@
 //! A hart whose ring is full.
 
+ghost use Rattle.std.specs.Prelude.{IfOk};
+ghost use Rattle.record_lane.specs.Rings.{IsTakerOf};
+ghost use Rattle.hart_actor.specs.Objects.{AreOf};
+
 use elf_image::load;
 use guest_images::{COUNT, small_image};
 use hart_actor::{HartActor, HartTurn};
-use record_lane::{Got, Lane, Record, Reply, Ring};
+use record_lane::{Got, Lane, Record, Reply, Ring, RingTaker};
 use std::alloc::Global;
+use std::sync::Wait;
 use std::test::Fail;
 use syscall_drain::Guest;
 use word_stores::SharedMemory;
@@ -23,25 +28,68 @@ fn counting(alloc: Global) -> Result<Guest, Fail> {
     Ok(Guest::new(image, Vec::new(alloc)))
 }
 
+/// A hart, the memory, the ring of one record and the lane of its turns, and the taker of the ring.
+type Stage = (
+    HartActor,
+    SharedMemory,
+    Ring<Record>,
+    Lane<Reply>,
+    RingTaker<Record>,
+);
+
+fn stage(alloc: Global, guest: &Guest) -> Result<Stage, Fail>
+    ensures hart { IfOk result (λ made. AreOf made.0 guest.now made.1 made.2 made.3) }
+    ensures taker { IfOk result (λ made. IsTakerOf made.2 made.4) }
+{
+    let words = guest.image().words();
+    let (memory, mut passes) = SharedMemory::create(alloc, guest.image(), 1, LIMIT)?;
+    let pass = passes.pop().ok_or("a pass")?;
+    let (items, sender, taken) = Ring::<Record>::create(alloc, 1, words, TOP)?;
+    let (replies, _answers, taker) = Lane::<Reply>::create(alloc, 1, words, TOP)?;
+    let hart = HartActor::create(alloc, 0, guest, BUDGET, pass, sender, taker)?;
+    Ok((hart, memory, items, replies, taken))
+}
+
+/// A turn of up to 100 units, and how many units the hart has done after it.
+fn turn_of<R: Wait>(
+    rt: &R,
+    hart: &mut HartActor,
+    guest: &Guest,
+    memory: &SharedMemory,
+    items: &Ring<Record>,
+    replies: &Lane<Reply>,
+) -> (HartTurn, u32)
+    requires { AreOf hart.old guest.now memory.now items.now replies.now }
+    ensures { AreOf hart.new guest.now memory.now items.now replies.now }
+{
+    let turn = hart.turn(rt, guest, memory, items, replies, 100);
+    (turn, hart.done())
+}
+
+/// The step of the next record, if there is one, of an instruction without an access.
+fn next_quiet(items: &Ring<Record>, taken: &mut RingTaker<Record>) -> Option<u32>
+    requires { IsTakerOf items.now taken.old }
+    ensures { IsTakerOf items.now taken.new }
+{
+    match items.take(taken) {
+        Got::Item(Record::Quiet { step, .. }) => Some(step),
+        _ => None,
+    }
+}
+
 #[test]
 fn a_ring_of_one_record_stops_its_hart(rt: HostRuntime) -> Result<(), Fail> {
     let guest = counting(rt.alloc())?;
-    let words = guest.image().words();
-    let (memory, mut passes) = SharedMemory::create(rt.alloc(), guest.image(), 1, LIMIT)?;
-    let pass = passes.pop().ok_or("a pass")?;
-    let (items, sender, mut taken) = Ring::<Record>::create(rt.alloc(), 1, words, TOP)?;
-    let (replies, _answers, taker) = Lane::<Reply>::create(rt.alloc(), 1, words, TOP)?;
-    let mut hart = HartActor::create(rt.alloc(), 0, &guest, BUDGET, pass, sender, taker)?;
-    let first = hart.turn(&rt, &guest, &memory, &items, &replies, 100);
-    assert_eq!(rt; (first, hart.done()), (HartTurn::Went, 2));
-    let second = hart.turn(&rt, &guest, &memory, &items, &replies, 100);
-    assert_eq!(rt; (second, hart.done()), (HartTurn::Full, 2));
-    let record = items.take(&mut taken);
-    assert!(rt; matches!(record, Got::Item(Record::Quiet { step: 0, .. })));
-    let third = hart.turn(&rt, &guest, &memory, &items, &replies, 100);
-    assert_eq!(rt; (third, hart.done()), (HartTurn::Went, 3));
-    let record = items.take(&mut taken);
-    assert!(rt; matches!(record, Got::Item(Record::Quiet { step: 1, .. })));
-    assert!(rt; matches!(items.take(&mut taken), Got::Empty));
+    let (mut hart, memory, items, replies, mut taken) = stage(rt.alloc(), &guest)?;
+    let first = turn_of(&rt, &mut hart, &guest, &memory, &items, &replies);
+    let second = turn_of(&rt, &mut hart, &guest, &memory, &items, &replies);
+    let record = next_quiet(&items, &mut taken);
+    let third = turn_of(&rt, &mut hart, &guest, &memory, &items, &replies);
+    assert_eq!(rt; first, (HartTurn::Went, 2));
+    assert_eq!(rt; second, (HartTurn::Full, 2));
+    assert_eq!(rt; record, Some(0));
+    assert_eq!(rt; third, (HartTurn::Went, 3));
+    assert_eq!(rt; next_quiet(&items, &mut taken), Some(1));
+    assert_eq!(rt; next_quiet(&items, &mut taken), None);
     Ok(())
 }

@@ -1,6 +1,6 @@
 //! An actor whose core meets it twice, and one whose core reads input and jumps by it.
 
-ghost use Rattle.std.specs.Prelude.{◌≡◌, [], IfOk};
+ghost use Rattle.std.specs.Prelude.{◌≡◌, ◌<◌, [], IfOk};
 ghost use Rattle.record_lane.specs.Rings.{word_count_of, top_of, sent_by, IsSenderOf};
 ghost use Rattle.record_lane.specs.Lanes.{IsTakerOf};
 ghost use Rattle.ticket_table.specs.Calls.{MayServe};
@@ -10,6 +10,7 @@ use record_lane::{Got, Lane, MeetKind, Record, Reply, Ring, RingSender, Taker, T
 use rv_decode::{Insn, LoadKind};
 use rv_execute::Op;
 use std::alloc::Global;
+use std::sync::Wait;
 use std::test::Fail;
 use tag_actor::{TagActor, TagTurn};
 use tag_policy::Policy;
@@ -111,26 +112,36 @@ fn stage(alloc: Global) -> Result<Stage, NoMemory>
     Ok((memory, other, items, records, replies, answers, actor))
 }
 
+/// A turn of so many records at most, and how many records the actor has consumed after it.
+fn turn_of<R: Wait>(
+    rt: &R,
+    actor: &mut TagActor,
+    memory: &TagMemory,
+    items: &Ring<Record>,
+    replies: &Lane<Reply>,
+    quantum: u32,
+) -> (TagTurn, u32)
+    requires of { AreOf memory.now items.now replies.now actor.old }
+    requires some { 0 < quantum }
+    ensures { AreOf memory.now items.now replies.now actor.new }
+{
+    let turn = actor.turn(rt, memory, items, replies, quantum);
+    (turn, actor.done())
+}
+
 #[test]
 fn an_access_waits_for_the_one_before(rt: HostRuntime) -> Result<(), Fail> {
     let (memory, mut other, items, mut records, replies, _answers, mut actor) = stage(rt.alloc())?;
-    assert_eq!(rt;
-        actor.turn(&rt, &memory, &items, &replies, 9),
-        TagTurn::Empty
-    );
+    let empty = turn_of(&rt, &mut actor, &memory, &items, &replies, 9);
     let _ = items.send(&mut records, FILL);
-    assert_eq!(rt;
-        actor.turn(&rt, &memory, &items, &replies, 9),
-        TagTurn::Went
-    );
-    assert_eq!(rt; actor.turn(&rt, &memory, &items, &replies, 9), NOT_YET);
-    assert_eq!(rt; actor.done(), 0);
+    let took = turn_of(&rt, &mut actor, &memory, &items, &replies, 9);
+    let waits = turn_of(&rt, &mut actor, &memory, &items, &replies, 9);
     memory.serve(&mut other, 3, 0, Op::Read);
-    assert_eq!(rt;
-        actor.turn(&rt, &memory, &items, &replies, 9),
-        TagTurn::Went
-    );
-    assert_eq!(rt; actor.done(), 1);
+    let served = turn_of(&rt, &mut actor, &memory, &items, &replies, 9);
+    assert_eq!(rt; empty, (TagTurn::Empty, 0));
+    assert_eq!(rt; took, (TagTurn::Went, 0));
+    assert_eq!(rt; waits, (NOT_YET, 0));
+    assert_eq!(rt; served, (TagTurn::Went, 1));
     Ok(())
 }
 
@@ -139,20 +150,14 @@ fn a_meeting_waits_until_the_reply_before_is_taken(rt: HostRuntime) -> Result<()
     let (memory, _other, items, mut records, replies, mut answers, mut actor) = stage(rt.alloc())?;
     let _ = items.send(&mut records, MEET);
     let _ = items.send(&mut records, MEET);
-    assert_eq!(rt;
-        actor.turn(&rt, &memory, &items, &replies, 9),
-        TagTurn::Went
-    );
-    assert_eq!(rt;
-        actor.turn(&rt, &memory, &items, &replies, 9),
-        TagTurn::ReplyFull
-    );
-    assert_eq!(rt; replies.take(&rt, &mut answers), Got::Item(GO));
-    assert_eq!(rt;
-        actor.turn(&rt, &memory, &items, &replies, 9),
-        TagTurn::Went
-    );
-    assert_eq!(rt; actor.done(), 2);
+    let replied = turn_of(&rt, &mut actor, &memory, &items, &replies, 9);
+    let waits = turn_of(&rt, &mut actor, &memory, &items, &replies, 9);
+    let reply = replies.take(&rt, &mut answers);
+    let again = turn_of(&rt, &mut actor, &memory, &items, &replies, 9);
+    assert_eq!(rt; replied, (TagTurn::Went, 1));
+    assert_eq!(rt; waits, (TagTurn::ReplyFull, 1));
+    assert_eq!(rt; reply, Got::Item(GO));
+    assert_eq!(rt; again, (TagTurn::Went, 2));
     Ok(())
 }
 
@@ -164,19 +169,12 @@ fn a_core_that_jumps_by_input_is_trapped(rt: HostRuntime) -> Result<(), Fail> {
     let _ = items.send(&mut records, LOAD);
     let _ = items.send(&mut records, JUMP);
     let _ = items.send(&mut records, Record::End);
-    assert_eq!(rt;
-        actor.turn(&rt, &memory, &items, &replies, 1),
-        TagTurn::Went
-    );
-    assert_eq!(rt;
-        actor.turn(&rt, &memory, &items, &replies, 9),
-        TagTurn::Ended
-    );
-    assert_eq!(rt;
-        actor.turn(&rt, &memory, &items, &replies, 9),
-        TagTurn::Ended
-    );
-    assert_eq!(rt; actor.done(), 4);
+    let one = turn_of(&rt, &mut actor, &memory, &items, &replies, 1);
+    let others = turn_of(&rt, &mut actor, &memory, &items, &replies, 9);
+    let after = turn_of(&rt, &mut actor, &memory, &items, &replies, 9);
+    assert_eq!(rt; one, (TagTurn::Went, 1));
+    assert_eq!(rt; others, (TagTurn::Ended, 4));
+    assert_eq!(rt; after, (TagTurn::Ended, 4));
     if actor.ended() {
         assert_eq!(rt; actor.finish().trap, Some(JUMPED));
     }

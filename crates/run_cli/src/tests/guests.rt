@@ -1,7 +1,7 @@
 //! Guests that run to their ends.
 use super::*;
 use elf_image::load;
-use guest_images::{HEADERS, LRSC};
+use guest_images::{COUNT, HEADERS, LRSC};
 use inline_tracker::{Setup, Stepped, Tracker, status_of};
 use syscall_drain::{End, Guest};
 use tag_policy::Policy;
@@ -168,10 +168,21 @@ fn guests_on_one_core_run_to_their_ends(rt: HostRuntime) -> Result<(), Fail> {
 }
 
 #[test]
-fn cores_have_stacks_of_their_own(rt: HostRuntime) -> Result<(), Fail> {
+fn pages_end_where_they_were_asked_to(rt: HostRuntime) -> Result<(), Fail> {
     let alloc = rt.alloc();
     let stack = small_image(alloc, &OWN_STACK)?;
+    let count = small_image(alloc, &COUNT)?;
     let cases = [
+        Case {
+            options: &["--heap", "0"],
+            ..plain(
+                "a word past the heap",
+                &count,
+                3,
+                b"",
+                b"traps 0\nends 1\n0 fault 7\nend\n",
+            )
+        },
         Case {
             options: &["--stack", "2", "--cores", "2"],
             ..plain(
