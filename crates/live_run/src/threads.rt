@@ -48,11 +48,11 @@ fn start<'s, E, A: Actor<S> + Send + Drop + 's, S: Sync + 's, G: Gate + 's, X: W
 }
 
 /// The actor and its turns, once its thread has come to an end.
-fn come_back<A: Drop, P: Promise<(A, u64)>, X: Threads>(
+fn come_back<A: Lasting + Drop, X: Threads>(
     rt: &X,
-    started: Result<PromisedHandle<(A, u64), P>, (A, u64)>,
+    started: Result<PromisedHandle<(A, u64), ComesBack<A>>, (A, u64)>,
 ) -> (A, u64)
-    ensures { MatchResult started (λ handle. P.kept_by handle.promise result) (λ here. result ≡ here) }
+    ensures { MatchResult started (λ handle. A.same handle.promise.0.value result.0) (λ here. result ≡ here) }
 {
     match started {
         Ok(handle) => handle.join(rt),

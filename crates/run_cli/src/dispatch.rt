@@ -12,7 +12,7 @@ ghost use Rattle.run_cli.specs.Forms.{Came};
 
 use crate::deliver::deliver;
 use crate::ending::Ending;
-use crate::offline::offline;
+use crate::offline_commands::offline;
 use crate::options::RunOptions;
 use crate::prepare::prepare;
 use crate::refusal::refused;

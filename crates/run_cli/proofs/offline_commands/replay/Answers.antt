@@ -1,6 +1,6 @@
 use Rattle.std.proofs.Common.{inl, inr, refl, codes}
 use Rattle.run_cli.specs.Endings.{text_answer}
-use Rattle.run_cli.proofs.offline.replay.Goals as goal
+use Rattle.run_cli.proofs.offline_commands.replay.Goals as goal
 
 pub returns-in-Ok : goal.returns-in-Ok
 returns-in-Ok g c = inl (record {

@@ -3,7 +3,7 @@ use Rattle.run_cli.specs.Asked.{Inspect, image_in}
 use Rattle.run_cli.specs.Endings.{text_answer}
 use Rattle.run_cli.specs.MapText.{map_text}
 use Rattle.run_cli.proofs.Reading.{calm_of}
-use Rattle.run_cli.proofs.offline.inspect.Goals as goal
+use Rattle.run_cli.proofs.offline_commands.inspect.Goals as goal
 
 pub returns-in-Ok : goal.returns-in-Ok
 returns-in-Ok g c = inl (record {

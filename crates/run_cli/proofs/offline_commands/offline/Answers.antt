@@ -1,5 +1,5 @@
 use Rattle.run_cli.proofs.Completes.{offline_replay, offline_map}
-use Rattle.run_cli.proofs.offline.offline.Goals as goal
+use Rattle.run_cli.proofs.offline_commands.offline.Goals as goal
 
 pub returns-clause-completes_replay : goal.returns-clause-completes_replay
 returns-clause-completes_replay g c = rw c.status.ensures (offline_replay _ _ _ c.conclude.result c.conclude.ensures)

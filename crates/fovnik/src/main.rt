@@ -2,25 +2,8 @@
 //! memory map of a program.
 #![tactic(auto)]
 
-mod deliver;
-mod dispatch;
-mod ending;
-mod files;
-mod limits;
-mod live;
-mod map_text;
-mod offline;
-mod options;
-mod prepare;
-mod refusal;
-mod replay;
-mod setup;
-#[cfg(test)]
-mod tests;
-mod words;
-
-use dispatch::command;
 use outside::{HostFiles, HostSink, OpenGate};
+use run_cli::command;
 use std::process::ExitCode;
 use std::{env, io};
 

@@ -2,7 +2,7 @@ use Rattle.std.proofs.Common.{refl}
 use Rattle.run_cli.specs.Asked.{Replay, Inspect, replay_in, image_in}
 use Rattle.run_cli.specs.Words.{ReadsOffline}
 use Rattle.run_cli.proofs.Concluding.{came_ended, unsaid_ended}
-use Rattle.run_cli.proofs.offline.conclude.Goals as goal
+use Rattle.run_cli.proofs.offline_commands.conclude.Goals as goal
 
 pub returns-in-Ok-Replay : goal.returns-in-Ok-Replay
 returns-in-Ok-Replay g c =

@@ -1,8 +1,7 @@
 //! Commands on images in memory: what guests write, what is refused, and what is left where calls fail.
-use super::*;
-use crate::offline::offline;
 use guest_images::{HI, echo_image, file_of, push_words, small_image};
-use outside::{Gate, MemFiles, MemSink};
+use outside::{Gate, MemFiles, MemSink, OpenGate};
+use run_cli::{command, offline};
 use std::alloc::{AllocError, Global};
 use std::process::Abort;
 use std::sync::Wait;
