@@ -1,5 +1,5 @@
 #!/bin/sh
-# Builds every image of this folder, the one that run_cli's tests use, and the input that names an address.
+# Builds every image of this folder, the one that the program's own run uses, and the input that names an address.
 # Debian packages: gcc-riscv64-unknown-elf (12.2.0) and binutils-riscv64-unknown-elf (2.40).
 set -eu
 cd "$(dirname "$0")"
@@ -26,7 +26,7 @@ guest() {
 }
 
 for name in exit_three fault private_word reserve shared_lock shared_word spin; do small $name $name.elf; done
-small hi ../crates/run_cli/data/hi.elf
+small hi ../crates/fovnik/data/hi.elf
 compile -c start.S -o "$work/start.o"
 for name in locked_sum sort crc32 jump_target leak checks; do guest $name; done
 

@@ -1,5 +1,6 @@
 //! Policy texts: what is read, and each fault.
 
+use std::alloc::Global;
 use tag_policy::{Kinds, Mode, Policy, PolicyFault, PolicyKind, Rules, Version, read_policy};
 
 /// Texts with the name of their fault, and the table and the key that it is about.
@@ -40,29 +41,23 @@ const STANDARD: &str =
 const BYTES: &str =
     "version = 2\n[[policy]]\nsource = true\narith = \"none\"\n[[policy]]\nsource = false\nlogic = \"and\"\ncheck_sink = true\n";
 
+/// The name of the fault of a text, and the table and the key that it is about.
+fn fault_of(alloc: Global, text: &[u8]) -> Option<(&'static str, u32, u8)> {
+    match read_policy(alloc, text) {
+        Err(PolicyFault::Bad { kind, table, key }) => Some((kind.name(), table, key)),
+        _ => None,
+    }
+}
+
 #[test]
 fn each_damaged_text_has_its_fault(rt: HostRuntime) {
     for &(text, name, table, key) in &DAMAGED {
-        match read_policy(rt.alloc(), text.as_bytes()) {
-            Err(
-                PolicyFault::Bad {
-                    kind,
-                    table: found,
-                    key: number,
-                },
-            ) => {
-                assert_eq!(rt; kind.name(), name, "{text}");
-                assert_eq!(rt; (found, number), (table, key), "{text}");
-            }
-            _ => assert!(rt; false, "{text}"),
-        }
+        assert_eq!(rt;
+            fault_of(rt.alloc(), text.as_bytes()),
+            Some((name, table, key))
+        );
     }
-    let fault = PolicyFault::Bad {
-        kind: PolicyKind::Text,
-        table: 0,
-        key: 0,
-    };
-    assert!(rt; read_policy(rt.alloc(), &[255]) == Err(fault));
+    assert_eq!(rt; fault_of(rt.alloc(), &[255]), Some(("Text", 0, 0)));
     assert_eq!(rt; PolicyKind::TooMany.number(), 5);
 }
 

@@ -41,6 +41,9 @@ fn stage(alloc: Global, guest: &Guest) -> Result<Stage, Fail>
     ensures hart { IfOk result (λ made. AreOf made.0 guest.now made.1 made.2 made.3) }
     ensures taker { IfOk result (λ made. IsTakerOf made.2 made.4) }
 {
+    if guest.image().cores() == 0 {
+        return Err(Fail::new("no core"));
+    }
     let words = guest.image().words();
     let (memory, mut passes) = SharedMemory::create(alloc, guest.image(), 1, LIMIT)?;
     let pass = passes.pop().ok_or("a pass")?;
