@@ -8,7 +8,6 @@ mod measure;
 
 use crate::measure::{Measure, Shape, read_words};
 use anyhow::{Result, anyhow};
-use elf_image::load;
 use inline_tracker::{Finished, Setup, Tracker, status_of};
 use live_run::{LiveParts, RunShape, assemble, run};
 use outside::OpenGate;
@@ -19,12 +18,13 @@ use std::sync::Wait;
 use std::thread::Threads;
 use syscall_drain::Guest;
 use tag_policy::Policy;
+use test_guests::loaded;
 
 /// The first access number that is spent: no run comes near it.
 const LIMIT: u32 = 4_294_967_280;
 
 fn read_setup(alloc: Global, bytes: &[u8], measure: &Measure) -> Result<Setup> {
-    let Ok(image) = load(alloc, bytes, measure.cores, 16, 256) else {
+    let Ok(image) = loaded(alloc, bytes, measure.cores, 16, 256) else {
         return Err(anyhow!("the image is refused"));
     };
     let guest = Guest::new(image, Vec::new(alloc));

@@ -67,6 +67,21 @@ fn strings(alloc: Global, words: &[&str]) -> Result<Vec<String>, AllocError> {
     Ok(strings)
 }
 
+/// The small image of a program.
+fn image_of(alloc: Global, program: &[u32]) -> Result<Vec<u8>, AllocError> {
+    small_image(alloc, program)
+}
+
+/// The image of two segments, with these flags.
+fn echo(alloc: Global, flags: u32) -> Result<Vec<u8>, AllocError> {
+    echo_image(alloc, flags)
+}
+
+/// A file of these words.
+fn words_file(alloc: Global, words: &[u32]) -> Result<Vec<u8>, AllocError> {
+    file_of(alloc, words)
+}
+
 /// How a report ends where one core exits with 0 and none has a trap.
 const FINE: &[u8] = b"traps 0\nends 1\n0 exit 0\nend\n";
 
@@ -97,6 +112,11 @@ impl Surroundings {
             out: MemSink::new(alloc, 8192, &[])?,
             report: MemSink::new(alloc, 1_048_576, &[])?,
         })
+    }
+
+    /// One file more.
+    fn add(&mut self, alloc: Global, name: &str, bytes: &[u8]) -> Result<(), AllocError> {
+        self.files.add(alloc, name, bytes)
     }
 
     /// The status of a command whose actors pass this gate.
@@ -182,9 +202,9 @@ fn plain<'a>(
 fn try_replay(rt: &impl Abort, alloc: Global, case: &Case<'_>, report: &[u8]) -> Result<(), Fail> {
     let name = case.name;
     let mut around = Surroundings::ample(alloc, case.image)?;
-    around.files.add(alloc, "input", case.input)?;
-    around.files.add(alloc, "policy.toml", case.policy)?;
-    around.files.add(alloc, "report.txt", report)?;
+    around.add(alloc, "input", case.input)?;
+    around.add(alloc, "policy.toml", case.policy)?;
+    around.add(alloc, "report.txt", report)?;
     let mut words = strings(alloc, &REPLAY)?;
     for files in case.options.chunks_exact(2) {
         if files[0] == "--input" || files[0] == "--policy" {
@@ -206,8 +226,8 @@ fn left_by<G: Gate, X: Threads + Wait + Sync>(
     gate: &G,
 ) -> Result<(u8, Surroundings), AllocError> {
     let mut around = Surroundings::ample(alloc, case.image)?;
-    around.files.add(alloc, "input", case.input)?;
-    around.files.add(alloc, "policy.toml", case.policy)?;
+    around.add(alloc, "input", case.input)?;
+    around.add(alloc, "policy.toml", case.policy)?;
     let mut words = strings(alloc, &RUN)?;
     for option in case.options {
         words.push(String::from_str(alloc, option)?)?;

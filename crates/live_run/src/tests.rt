@@ -6,7 +6,6 @@ mod orders;
 mod rows;
 
 use super::*;
-use elf_image::load;
 use guest_images::{COUNT, HI, JUMP, LRSC, PASS, STORE_BUFFERING, small_image};
 use inline_tracker::{CoreOutcome, Finished, Setup, Stepped, Tracker, status_of};
 use outside::OpenGate;
@@ -16,6 +15,7 @@ use std::alloc::Global;
 use std::test::Fail;
 use syscall_drain::Guest;
 use tag_policy::{Policy, read_policy};
+use test_guests::loaded;
 
 /// A program and what it is run on, and what comes of it in whichever order.
 #[derive(Clone, Copy)]
@@ -54,7 +54,7 @@ fn setup_of(alloc: Global, row: &Row<'_>) -> Result<Setup, Fail> {
         return Err(Fail::new("a row with other numbers"));
     }
     let bytes = small_image(alloc, row.program)?;
-    let image = load(alloc, &bytes, row.cores, 1, 1)?;
+    let image = loaded(alloc, &bytes, row.cores, 1, 1)?;
     let guest = Guest::new(image, Vec::from_slice(alloc, row.input)?);
     Ok(Setup::new(guest, row.policy, 4096, 4_294_967_280))
 }

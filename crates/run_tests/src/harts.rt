@@ -4,14 +4,14 @@ ghost use Rattle.std.specs.Prelude.{IfOk};
 ghost use Rattle.record_lane.specs.Rings.{IsTakerOf};
 ghost use Rattle.hart_actor.specs.Objects.{AreOf};
 
-use elf_image::load;
-use guest_images::{COUNT, small_image};
+use guest_images::COUNT;
 use hart_actor::{HartActor, HartTurn};
 use record_lane::{Got, Lane, Record, Reply, Ring, RingTaker};
 use std::alloc::Global;
 use std::sync::Wait;
 use std::test::Fail;
 use syscall_drain::Guest;
+use test_guests::guest_of;
 use word_stores::SharedMemory;
 
 const BUDGET: u32 = 1_048_576;
@@ -20,13 +20,6 @@ const LIMIT: u32 = 10;
 
 /// The limit and the one caller.
 const TOP: u32 = 11;
-
-/// One core that counts a word to 1,000.
-fn counting(alloc: Global) -> Result<Guest, Fail> {
-    let bytes = small_image(alloc, &COUNT)?;
-    let image = load(alloc, &bytes, 1, 1, 1)?;
-    Ok(Guest::new(image, Vec::new(alloc)))
-}
 
 /// A hart, the memory, the ring of one record and the lane of its turns, and the taker of the ring.
 type Stage = (
@@ -82,7 +75,7 @@ fn next_quiet(items: &Ring<Record>, taken: &mut RingTaker<Record>) -> Option<u32
 
 #[test]
 fn a_ring_of_one_record_stops_its_hart(rt: HostRuntime) -> Result<(), Fail> {
-    let guest = counting(rt.alloc())?;
+    let guest = guest_of(rt.alloc(), &COUNT, 1)?;
     let (mut hart, memory, items, replies, mut taken) = stage(rt.alloc(), &guest)?;
     let first = turn_of(&rt, &mut hart, &guest, &memory, &items, &replies);
     let second = turn_of(&rt, &mut hart, &guest, &memory, &items, &replies);

@@ -1,18 +1,16 @@
 //! The tracker, unit by unit.
 
-use elf_image::load;
-use guest_images::{HI, small_image};
+use guest_images::HI;
 use inline_tracker::{Setup, StepFault, Stepped, Tracker, status_of};
 use std::alloc::Global;
 use std::test::Fail;
-use syscall_drain::{End, Guest};
+use syscall_drain::End;
 use tag_policy::Policy;
+use test_guests::guest_of;
 
 /// One core that runs the program that prints `hi`.
 fn printing(alloc: Global) -> Result<Setup, Fail> {
-    let bytes = small_image(alloc, &HI)?;
-    let image = load(alloc, &bytes, 1, 1, 1)?;
-    let guest = Guest::new(image, Vec::new(alloc));
+    let guest = guest_of(alloc, &HI, 1)?;
     Ok(Setup::new(guest, Policy::standard(), 1_048_576, 4_294_967_280))
 }
 

@@ -3,12 +3,12 @@
 ghost use Rattle.std.specs.Prelude.{◌≡◌, IfSome};
 ghost use Rattle.syscall_drain.specs.Units.{FitsAsk, taken_of};
 
-use elf_image::load;
-use guest_images::{HI, small_image};
+use guest_images::HI;
 use record_lane::{MeetKind, Record, Reply};
 use rv_execute::{Op, Taken};
 use std::test::Fail;
 use syscall_drain::{Answer, CoreAsk, CoreState, End, Guest};
+use test_guests::guest_of;
 
 /// An answer to an ask: an access is the first to its word and finds this word.
 fn answer_to(ask: CoreAsk, word: u32) -> Option<Answer>
@@ -42,10 +42,8 @@ fn spend(core: &mut CoreState, guest: &Guest, word: u32) -> Option<CoreAsk> {
 
 #[test]
 fn hi_prints_and_exits(rt: HostRuntime) -> Result<(), Fail> {
-    let bytes = small_image(rt.alloc(), &HI)?;
-    let image = load(rt.alloc(), &bytes, 1, 16, 256)?;
-    assert_eq!(rt; image.entry() % 4, 0);
-    let guest = Guest::new(image, Vec::new(rt.alloc()));
+    let guest = guest_of(rt.alloc(), &HI, 1)?;
+    assert_eq!(rt; guest.image().entry() % 4, 0);
     let mut core = CoreState::create(0, &guest, 1048576);
     let meeting = |step, pc, call, kind| CoreAsk::Meet {
         item: Record::Meet {

@@ -1,8 +1,26 @@
 //! The worked images: what is read off them, and the fault of each kind of damage.
-use elf_image::{ImageFault, load};
+use elf_image::ImageFault;
 use guest_images::{HI, echo_image, small_image};
+use std::alloc::{AllocError, Global};
 use std::test::Fail;
+use test_guests::loaded;
 
+/// The image of the program that prints `hi`.
+fn hi_image(alloc: Global) -> Result<Vec<u8>, AllocError> {
+    small_image(alloc, &HI)
+}
+
+/// The image of two segments.
+fn plain_echo(alloc: Global) -> Result<Vec<u8>, AllocError> {
+    echo_image(alloc, 0)
+}
+
+/// What is wrong with an image for one core.
+fn fault_of(alloc: Global, bytes: &[u8]) -> Option<ImageFault> {
+    loaded(alloc, bytes, 1, 16, 256).err()
+}
+
+/// The bytes with another one at a place.
 fn with_byte(mut bytes: Vec<u8>, place: usize, value: u8) -> Vec<u8> {
     if let Some(byte) = bytes.get_mut(place) {
         *byte = value;
@@ -12,8 +30,8 @@ fn with_byte(mut bytes: Vec<u8>, place: usize, value: u8) -> Vec<u8> {
 
 #[test]
 fn hello_is_laid_out(rt: HostRuntime) -> Result<(), Fail> {
-    let bytes = small_image(rt.alloc(), &HI)?;
-    let image = load(rt.alloc(), &bytes, 1, 16, 256)?;
+    let bytes = hi_image(rt.alloc())?;
+    let image = loaded(rt.alloc(), &bytes, 1, 16, 256)?;
     assert_eq!(rt; (image.cores(), image.stack(), image.heap()), (1, 16, 256));
     assert_eq!(rt;
         (image.entry(), image.break_base(), image.heap_end()),
@@ -66,9 +84,9 @@ fn hello_is_laid_out(rt: HostRuntime) -> Result<(), Fail> {
 
 #[test]
 fn echo_has_two_segments(rt: HostRuntime) -> Result<(), Fail> {
-    let bytes = echo_image(rt.alloc(), 0)?;
+    let bytes = plain_echo(rt.alloc())?;
     assert_eq!(rt; bytes.len(), 0x1004);
-    let image = load(rt.alloc(), &bytes, 1, 16, 256)?;
+    let image = loaded(rt.alloc(), &bytes, 1, 16, 256)?;
     assert_eq!(rt; image.entry(), 0x1_00b4);
     assert_eq!(rt; image.segments(), 2);
     assert_eq!(rt; image.segment(0), Some((0x1_0000, 0x1_00f0, 5)));
@@ -93,10 +111,7 @@ fn echo_has_two_segments(rt: HostRuntime) -> Result<(), Fail> {
 
 #[test]
 fn damage_has_its_fault(rt: HostRuntime) -> Result<(), Fail> {
-    assert_eq!(rt;
-        load(rt.alloc(), &[], 1, 16, 256).err(),
-        Some(ImageFault::Short)
-    );
+    assert_eq!(rt; fault_of(rt.alloc(), &[]), Some(ImageFault::Short));
     for (place, value, fault) in [
         (0, 0x7e, Some(ImageFault::Magic)),
         (4, 2, Some(ImageFault::Class)),
@@ -123,22 +138,18 @@ fn damage_has_its_fault(rt: HostRuntime) -> Result<(), Fail> {
         (26, 2, Some(ImageFault::Entry)),
         (80, 5, None),
     ] {
-        let bytes = with_byte(small_image(rt.alloc(), &HI)?, place, value);
-        assert_eq!(rt;
-            load(rt.alloc(), &bytes, 1, 16, 256).err(),
-            fault,
-            "{value} at {place}"
-        );
+        let bytes = with_byte(hi_image(rt.alloc())?, place, value);
+        assert_eq!(rt; fault_of(rt.alloc(), &bytes), fault, "{value} at {place}");
     }
-    let overlapping = with_byte(echo_image(rt.alloc(), 0)?, 52 + 64 + 9, 0);
+    let overlapping = with_byte(plain_echo(rt.alloc())?, 52 + 64 + 9, 0);
     assert_eq!(rt;
-        load(rt.alloc(), &overlapping, 1, 16, 256).err(),
+        fault_of(rt.alloc(), &overlapping),
         Some(ImageFault::Overlap)
     );
-    let bytes = small_image(rt.alloc(), &HI)?;
-    assert_eq!(rt; load(rt.alloc(), &bytes, 8, 480, 255).err(), None);
+    let bytes = hi_image(rt.alloc())?;
+    assert_eq!(rt; loaded(rt.alloc(), &bytes, 8, 480, 255).err(), None);
     assert_eq!(rt;
-        load(rt.alloc(), &bytes, 8, 480, 256).err(),
+        loaded(rt.alloc(), &bytes, 8, 480, 256).err(),
         Some(ImageFault::TooLarge)
     );
     Ok(())

@@ -1,15 +1,16 @@
-use elf_image::{Image, ImageFault, load};
+use elf_image::{Image, ImageFault};
 use guest_images::{HI, small_image};
 use rv_execute::Op;
 use std::alloc::Global;
 use std::test::Fail;
+use test_guests::loaded;
 use ticket_table::{number, payload};
 use word_stores::{Served, SharedMemory, TagMemory};
 
 /// The image of a program, for one core, one page of stack and one of heap.
 fn image_of(alloc: Global, program: &[u32]) -> Result<Image, ImageFault> {
     let bytes = small_image(alloc, program)?;
-    load(alloc, &bytes, 1, 1, 1)
+    loaded(alloc, &bytes, 1, 1, 1)
 }
 
 #[test]

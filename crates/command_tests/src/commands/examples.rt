@@ -196,9 +196,9 @@ const SORTED: &[u8] =
 #[test]
 fn guests_without_input_write_what_is_known(rt: HostRuntime) -> Result<(), Fail> {
     let alloc = rt.alloc();
-    let locked_sum = file_of(alloc, &LOCKED_SUM)?;
-    let sort = file_of(alloc, &SORT)?;
-    let crc32 = file_of(alloc, &CRC32)?;
+    let locked_sum = words_file(alloc, &LOCKED_SUM)?;
+    let sort = words_file(alloc, &SORT)?;
+    let crc32 = words_file(alloc, &CRC32)?;
     let cases = [
         plain("sort", &sort, 0, SORTED, FINE),
         plain("crc32", &crc32, 0, b"2382472371 44\n", FINE),
@@ -233,8 +233,8 @@ fn guests_without_input_write_what_is_known(rt: HostRuntime) -> Result<(), Fail>
 #[test]
 fn input_that_steers_a_jump_or_the_output_is_stopped(rt: HostRuntime) -> Result<(), Fail> {
     let alloc = rt.alloc();
-    let jump_target = file_of(alloc, &JUMP_TARGET)?;
-    let leak = file_of(alloc, &LEAK)?;
+    let jump_target = words_file(alloc, &JUMP_TARGET)?;
+    let leak = words_file(alloc, &LEAK)?;
     let input = &["--input", "input"];
     let both = &["--policy", "policy.toml", "--input", "input"];
     let cases = [

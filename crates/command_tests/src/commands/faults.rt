@@ -63,17 +63,17 @@ fn around(
     out: usize,
     report: usize,
 ) -> Result<Surroundings, AllocError> {
-    let bytes = small_image(alloc, &HI)?;
-    let mut files = MemFiles::new(alloc, &[reading])?;
-    files.add(alloc, "guest.elf", &bytes)?;
-    files.add(alloc, "policy.toml", b"version = 1\npolicy = []\n")?;
-    files.add(alloc, "input", b"")?;
-    files.add(alloc, "report.txt", HI_REPORT)?;
-    Ok(Surroundings {
-        files,
+    let bytes = image_of(alloc, &HI)?;
+    let mut around = Surroundings {
+        files: MemFiles::new(alloc, &[reading])?,
         out: MemSink::new(alloc, out, &[])?,
         report: MemSink::new(alloc, report, &[])?,
-    })
+    };
+    around.add(alloc, "guest.elf", &bytes)?;
+    around.add(alloc, "policy.toml", b"version = 1\npolicy = []\n")?;
+    around.add(alloc, "input", b"")?;
+    around.add(alloc, "report.txt", HI_REPORT)?;
+    Ok(around)
 }
 
 /// No reading has this number.
@@ -181,7 +181,7 @@ fn run_long<X: Threads + Wait + Sync>(
     room: usize,
     call: u64,
 ) -> Result<(u8, Surroundings), AllocError> {
-    let bytes = small_image(alloc, &COUNT)?;
+    let bytes = image_of(alloc, &COUNT)?;
     let mut around = Surroundings::ample(alloc, &bytes)?;
     around.report = MemSink::new(alloc, room, &[call])?;
     let words = ["run", "--image=guest.elf", "--budget=700"];
@@ -265,7 +265,7 @@ fn refusals(flags: &[u8]) -> [Refusal<'_>; 6] {
 #[test]
 fn a_refusal_keeps_its_status_where_its_line_fails(rt: HostRuntime) -> Result<(), Fail> {
     let alloc = rt.alloc();
-    let flags = echo_image(alloc, 1)?;
+    let flags = echo(alloc, 1)?;
     for Refusal {
         words,
         image,
@@ -295,7 +295,7 @@ fn a_refusal_keeps_its_status_where_its_line_fails(rt: HostRuntime) -> Result<()
 #[test]
 fn a_refusal_keeps_its_status_in_little_room(rt: HostRuntime) -> Result<(), Fail> {
     let alloc = rt.alloc();
-    let flags = echo_image(alloc, 1)?;
+    let flags = echo(alloc, 1)?;
     for Refusal {
         words,
         image,

@@ -128,7 +128,7 @@ fn try_meeting<X: Abort + Threads + Wait + Sync>(
     alloc: Global,
     gate: &MeetingGate,
 ) -> Result<(), Fail> {
-    let count = small_image(alloc, &COUNT)?;
+    let count = image_of(alloc, &COUNT)?;
     let case = Case {
         options: &["--cores", "2", "--lane", "4", "--quantum", "1"],
         head: b"cores 2\nbudget 1048576\nlimit 4294967280\nstack 16\nheap 256\nunits 6012\n",
@@ -182,7 +182,7 @@ const NARROW: [&str; 12] = [
 #[test]
 fn a_reservation_stands_or_falls_whichever_turn_is_held(rt: HostRuntime) -> Result<(), Fail> {
     let alloc = rt.alloc();
-    let reserving = small_image(alloc, &LRSC)?;
+    let reserving = image_of(alloc, &LRSC)?;
     let case = Case {
         options: &NARROW,
         ..plain(
@@ -207,7 +207,7 @@ fn a_reservation_stands_or_falls_whichever_turn_is_held(rt: HostRuntime) -> Resu
 #[test]
 fn a_store_is_found_whichever_turn_is_held(rt: HostRuntime) -> Result<(), Fail> {
     let alloc = rt.alloc();
-    let buffering = small_image(alloc, &STORE_BUFFERING)?;
+    let buffering = image_of(alloc, &STORE_BUFFERING)?;
     let case = Case {
         options: &NARROW,
         ..plain("store buffering", &buffering, 1, b"", b"end\n")

@@ -1,10 +1,10 @@
 //! Guests that run to their ends.
 use super::*;
-use elf_image::load;
 use guest_images::{COUNT, HEADERS, LRSC};
 use inline_tracker::{Setup, Stepped, Tracker, status_of};
-use syscall_drain::{End, Guest};
+use syscall_drain::End;
 use tag_policy::Policy;
+use test_guests::guest_of;
 
 /// `hi` with its buffer at address 0 and with no `li a0, 0`: exits with the low byte of -14.
 const NO_BUFFER: [u32; 10] = [
@@ -74,7 +74,7 @@ fn two_segments(alloc: Global, program: &[u32]) -> Result<Vec<u8>, AllocError> {
 #[test]
 fn hi_has_its_whole_report(rt: HostRuntime) -> Result<(), Fail> {
     let alloc = rt.alloc();
-    let bytes = small_image(alloc, &HI)?;
+    let bytes = image_of(alloc, &HI)?;
     let mut around = Surroundings::ample(alloc, &bytes)?;
     let words = ["run", "--image=guest.elf", "--cores=1"];
     assert_eq!(rt; around.command(&rt, alloc, &words)?, 0);
@@ -155,7 +155,7 @@ fn guests_on_one_core_run_to_their_ends(rt: HostRuntime) -> Result<(), Fail> {
         ),
     ];
     for (guest, program, status, rest, tail) in cases {
-        let bytes = small_image(alloc, program)?;
+        let bytes = image_of(alloc, program)?;
         let mut head = Vec::from_slice(alloc, USUAL)?;
         head.extend_from_slice(rest)?;
         let case = Case {
@@ -170,8 +170,8 @@ fn guests_on_one_core_run_to_their_ends(rt: HostRuntime) -> Result<(), Fail> {
 #[test]
 fn pages_end_where_they_were_asked_to(rt: HostRuntime) -> Result<(), Fail> {
     let alloc = rt.alloc();
-    let stack = small_image(alloc, &OWN_STACK)?;
-    let count = small_image(alloc, &COUNT)?;
+    let stack = image_of(alloc, &OWN_STACK)?;
+    let count = image_of(alloc, &COUNT)?;
     let cases = [
         Case {
             options: &["--heap", "0"],
@@ -238,8 +238,7 @@ fn a_store_of_another_core_ends_a_reservation(rt: HostRuntime) -> Result<(), Fai
         ([0, 0, 0, 0, 0, 0, 0, 0, 1, 1, 1, 1, 1, 1], End::Exit(0), 0),
     ];
     for (order, end, class) in cases {
-        let bytes = small_image(alloc, &LRSC)?;
-        let guest = Guest::new(load(alloc, &bytes, 2, 16, 256)?, Vec::new(alloc));
+        let guest = guest_of(alloc, &LRSC, 2)?;
         let setup = Setup::new(guest, Policy::standard(), 1_048_576, 4_294_967_280);
         let mut tracker = Tracker::create(alloc, &setup)?;
         for core in order {

@@ -19,8 +19,8 @@ const SMALL_MAP: &[u8] = b"entry 00010000\n\
 #[test]
 fn maps_are_told(rt: HostRuntime) -> Result<(), Fail> {
     let alloc = rt.alloc();
-    let hi = small_image(alloc, &HI)?;
-    let echo = echo_image(alloc, 0)?;
+    let hi = image_of(alloc, &HI)?;
+    let echo = echo(alloc, 0)?;
     let small: &[&str] = &[
         "inspect",
         "--image=guest.elf",

@@ -69,7 +69,7 @@ fn answers<'a>(hi: &'a [u8], flags: &'a [u8]) -> [Answer<'a>; 7] {
 
 /// The image of `hi`, and one with other flags.
 fn images(alloc: Global) -> Result<(Vec<u8>, Vec<u8>), AllocError> {
-    Ok((small_image(alloc, &HI)?, echo_image(alloc, 1)?))
+    Ok((image_of(alloc, &HI)?, echo(alloc, 1)?))
 }
 
 /// The status of a command, and what it left.
@@ -79,7 +79,7 @@ fn answered<X: Threads + Wait + Sync>(
     answer: &Answer<'_>,
 ) -> Result<(u8, Surroundings), AllocError> {
     let mut around = Surroundings::ample(alloc, answer.image)?;
-    around.files.add(alloc, "report.txt", HI_REPORT)?;
+    around.add(alloc, "report.txt", HI_REPORT)?;
     let status = around.command(rt, alloc, answer.words)?;
     Ok((status, around))
 }

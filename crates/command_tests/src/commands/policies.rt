@@ -5,10 +5,10 @@ use guest_images::{BYTE_JUMP, JUMP, ODD, PASS};
 #[test]
 fn policies_stop_what_they_check(rt: HostRuntime) -> Result<(), Fail> {
     let alloc = rt.alloc();
-    let jump = small_image(alloc, &JUMP)?;
-    let pass = small_image(alloc, &PASS)?;
-    let odd = small_image(alloc, &ODD)?;
-    let byte_jump = small_image(alloc, &BYTE_JUMP)?;
+    let jump = image_of(alloc, &JUMP)?;
+    let pass = image_of(alloc, &PASS)?;
+    let odd = image_of(alloc, &ODD)?;
+    let byte_jump = image_of(alloc, &BYTE_JUMP)?;
     let target = b"\x20\x00\x01\x00";
     let sink = b"version = 1\n[[policy]]\nsource = true\ncheck_sink = true\n";
     let bytes =

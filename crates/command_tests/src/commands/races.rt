@@ -90,7 +90,7 @@ const BOTH_FINE: &[u8] = b"traps 0\nends 2\n0 exit 0\n1 exit 0\nend\n";
 #[test]
 fn one_of_two_cores_echoes_the_whole_input(rt: HostRuntime) -> Result<(), Fail> {
     let alloc = rt.alloc();
-    let echo = echo_image(alloc, 0)?;
+    let echo = echo(alloc, 0)?;
     for (lane, quantum) in [("64", "64"), ("1", "1"), ("2", "3")] {
         let options = [
             "--cores",
@@ -124,7 +124,7 @@ fn one_of_two_cores_echoes_the_whole_input(rt: HostRuntime) -> Result<(), Fail> 
 #[test]
 fn cores_without_input_claim_nothing(rt: HostRuntime) -> Result<(), Fail> {
     let alloc = rt.alloc();
-    let echo = echo_image(alloc, 0)?;
+    let echo = echo(alloc, 0)?;
     let case = Case {
         options: &["--cores", "2"],
         head: b"cores 2\nbudget 1048576\nlimit 4294967280\nstack 16\nheap 256\nunits 36\n",
@@ -141,7 +141,7 @@ fn cores_without_input_claim_nothing(rt: HostRuntime) -> Result<(), Fail> {
 #[test]
 fn two_stores_are_not_both_too_late(rt: HostRuntime) -> Result<(), Fail> {
     let alloc = rt.alloc();
-    let image = small_image(alloc, &STORE_BUFFERING)?;
+    let image = image_of(alloc, &STORE_BUFFERING)?;
     for lane in ["1", "2", "64", "4096"] {
         let options = ["--cores", "2", "--lane", lane];
         let case = Case {
@@ -157,7 +157,7 @@ fn two_stores_are_not_both_too_late(rt: HostRuntime) -> Result<(), Fail> {
 #[test]
 fn each_access_to_a_shared_word_has_the_next_number(rt: HostRuntime) -> Result<(), Fail> {
     let alloc = rt.alloc();
-    let count = small_image(alloc, &COUNT)?;
+    let count = image_of(alloc, &COUNT)?;
     let case = Case {
         options: &["--cores", "8"],
         head: b"cores 8\nbudget 1048576\nlimit 4294967280\nstack 16\nheap 256\nunits 24048\n",
@@ -179,7 +179,7 @@ fn each_access_to_a_shared_word_has_the_next_number(rt: HostRuntime) -> Result<(
 #[test]
 fn both_cores_find_a_spent_word(rt: HostRuntime) -> Result<(), Fail> {
     let alloc = rt.alloc();
-    let count = small_image(alloc, &COUNT)?;
+    let count = image_of(alloc, &COUNT)?;
     let case = Case {
         options: &["--cores", "2", "--limit", "1"],
         head: b"cores 2\nbudget 1048576\nlimit 1\nstack 16\nheap 256\nunits 11\n",

@@ -10,8 +10,8 @@ fn zeros(alloc: Global, count: usize) -> Result<Vec<u8>, AllocError> {
 #[test]
 fn other_files_are_refused(rt: HostRuntime) -> Result<(), Fail> {
     let alloc = rt.alloc();
-    let hi = small_image(alloc, &HI)?;
-    let flags = echo_image(alloc, 1)?;
+    let hi = image_of(alloc, &HI)?;
+    let flags = echo(alloc, 1)?;
     let long_image = zeros(alloc, 33_554_433)?;
     let long_input = zeros(alloc, 16_777_217)?;
     let long_policy = zeros(alloc, 65_537)?;
@@ -54,8 +54,8 @@ fn other_files_are_refused(rt: HostRuntime) -> Result<(), Fail> {
     ];
     for (bytes, policy, input, status, line) in cases {
         let mut around = Surroundings::ample(alloc, bytes)?;
-        around.files.add(alloc, "policy.toml", policy)?;
-        around.files.add(alloc, "input", input)?;
+        around.add(alloc, "policy.toml", policy)?;
+        around.add(alloc, "input", input)?;
         let length = bytes.len();
         assert_eq!(rt;
             around.command(&rt, alloc, &words)?,
@@ -71,7 +71,7 @@ fn other_files_are_refused(rt: HostRuntime) -> Result<(), Fail> {
 #[test]
 fn other_words_are_refused(rt: HostRuntime) -> Result<(), Fail> {
     let alloc = rt.alloc();
-    let bytes = small_image(alloc, &HI)?;
+    let bytes = image_of(alloc, &HI)?;
     let cases: [&[&str]; 23] = [
         &[],
         &["--help"],
@@ -104,8 +104,8 @@ fn other_words_are_refused(rt: HostRuntime) -> Result<(), Fail> {
     ];
     for words in cases {
         let mut around = Surroundings::ample(alloc, &bytes)?;
-        around.files.add(alloc, "-guest.elf", &bytes)?;
-        around.files.add(alloc, "", &bytes)?;
+        around.add(alloc, "-guest.elf", &bytes)?;
+        around.add(alloc, "", &bytes)?;
         assert_eq!(rt; around.command(&rt, alloc, words)?, 64, "{words:?}");
         assert_eq!(rt; around.report.bytes(), b"refused 64 words\n".as_slice());
         assert_eq!(rt; around.out.calls(), 0, "{words:?}");

@@ -22,9 +22,9 @@ fn try_report<X: Abort + Threads + Wait + Sync>(
     status: u8,
     line: &[u8],
 ) -> Result<(), Fail> {
-    let image = small_image(alloc, &HI)?;
+    let image = image_of(alloc, &HI)?;
     let mut around = Surroundings::ample(alloc, &image)?;
-    around.files.add(alloc, "report.txt", report)?;
+    around.add(alloc, "report.txt", report)?;
     assert_eq!(rt; around.command(rt, alloc, &REPLAY)?, status, "{line:?}");
     let out = if status == 0 { SAME } else { b"" };
     assert_eq!(rt; around.out.bytes(), out, "{line:?}");
@@ -129,7 +129,7 @@ fn the_first_bad_line_is_told(rt: HostRuntime) -> Result<(), Fail> {
 #[test]
 fn files_of_a_replay_are_refused_in_their_order(rt: HostRuntime) -> Result<(), Fail> {
     let alloc = rt.alloc();
-    let hi = small_image(alloc, &HI)?;
+    let hi = image_of(alloc, &HI)?;
     let short = changed(alloc, HI_REPORT, b"units 13\n0\n", b"units 12\n")?;
     let policy = b"version = 1\npolicy = []\n";
     // The report, the image, the policy, the status, and the line.
@@ -153,8 +153,8 @@ fn files_of_a_replay_are_refused_in_their_order(rt: HostRuntime) -> Result<(), F
     ];
     for (report, image, policy, status, line) in cases {
         let mut around = Surroundings::ample(alloc, image)?;
-        around.files.add(alloc, "report.txt", report)?;
-        around.files.add(alloc, "policy.toml", policy)?;
+        around.add(alloc, "report.txt", report)?;
+        around.add(alloc, "policy.toml", policy)?;
         assert_eq!(rt; around.command(&rt, alloc, &words)?, status);
         assert_eq!(rt; around.out.calls(), 0);
         assert_eq!(rt; around.report.bytes(), line);
@@ -165,7 +165,7 @@ fn files_of_a_replay_are_refused_in_their_order(rt: HostRuntime) -> Result<(), F
 #[test]
 fn offline_does_all_but_run(rt: HostRuntime) -> Result<(), Fail> {
     let alloc = rt.alloc();
-    let hi = small_image(alloc, &HI)?;
+    let hi = image_of(alloc, &HI)?;
     let inspect = ["inspect", "--image", "guest.elf"];
     let cases: [(&[&str], u8, &[u8], &[u8]); 3] = [
         (&REPLAY, 0, SAME, b""),
@@ -174,7 +174,7 @@ fn offline_does_all_but_run(rt: HostRuntime) -> Result<(), Fail> {
     ];
     for (words, status, out, report) in cases {
         let mut around = Surroundings::ample(alloc, &hi)?;
-        around.files.add(alloc, "report.txt", HI_REPORT)?;
+        around.add(alloc, "report.txt", HI_REPORT)?;
         let words = strings(alloc, words)?;
         assert_eq!(rt; around.status_offline(alloc, &words), status);
         assert_eq!(rt; around.out.bytes(), out);
