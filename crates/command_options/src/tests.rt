@@ -98,13 +98,12 @@ fn options_in_both_spellings(rt: HostRuntime) -> Result<(), Fail> {
     for (words, image, policy, heap) in rows {
         let words = strings(rt.alloc(), words)?;
         let options = read_options(rt.alloc(), &RUN, words.as_slice())?;
-        assert_eq!(rt; options.value("image"), Some(image), "{words:?}");
-        assert_eq!(rt; options.value("policy"), policy, "{words:?}");
-        assert_eq!(rt; options.value("heap"), heap, "{words:?}");
-        assert_eq!(rt; options.value("other"), None, "{words:?}");
-        assert_eq!(rt;
-            image_of(rt.alloc(), words.as_slice()),
-            Ok(image),
+        assert!(rt; options.value("image") == Some(image), "{words:?}");
+        assert!(rt; options.value("policy") == policy, "{words:?}");
+        assert!(rt; options.value("heap") == heap, "{words:?}");
+        assert!(rt; options.value("other") == None, "{words:?}");
+        assert!(rt;
+            image_of(rt.alloc(), words.as_slice()) == Ok(image),
             "{words:?}"
         );
     }
@@ -142,7 +141,7 @@ fn words_that_are_refused(rt: HostRuntime) -> Result<(), Fail> {
     for words in rows {
         let words = strings(rt.alloc(), words)?;
         let fault = read_options(rt.alloc(), &RUN, words.as_slice()).err();
-        assert_eq!(rt; fault, Some(WordsFault::Other), "{words:?}");
+        assert!(rt; fault == Some(WordsFault::Other), "{words:?}");
     }
     Ok(())
 }
@@ -170,7 +169,7 @@ fn numbers_in_a_range(rt: HostRuntime) -> Result<(), Fail> {
         ("x", 0, 9, None),
     ];
     for (text, low, high, want) in rows {
-        assert_eq!(rt; number_in(text, low, high), want, "{text}");
+        assert!(rt; number_in(text, low, high) == want, "{text}");
     }
     Ok(())
 }

@@ -94,6 +94,23 @@ const REPLAY: [&str; 5] = ["replay", "--image", "guest.elf", "--report", "report
 /// What is written where they agree.
 const SAME: &[u8] = b"same\n";
 
+/// What a command leaves: its status, what goes out, and its report.
+#[derive(Clone, Copy)]
+struct Outcome<'a> {
+    status: u8,
+    out: &'a [u8],
+    report: &'a [u8],
+}
+
+/// A command that is refused with this line.
+fn refused(status: u8, line: &[u8]) -> Outcome<'_> {
+    Outcome {
+        status,
+        out: b"",
+        report: line,
+    }
+}
+
 /// The files and the two sinks of a command.
 #[derive(Drop)]
 struct Surroundings {
@@ -147,6 +164,22 @@ impl Surroundings {
             &mut self.out,
             &mut self.report,
         )
+    }
+
+    /// Gives a command of these words, and compares what it leaves. Where nothing is to go out, nothing is written.
+    fn try_command<X: Abort + Threads + Wait + Sync>(
+        &mut self,
+        rt: &X,
+        alloc: Global,
+        words: &[&str],
+        want: &Outcome<'_>,
+    ) -> Result<(), Fail> {
+        let status = self.command(rt, alloc, words)?;
+        assert_eq!(rt; status, want.status, "{words:?}");
+        assert_eq!(rt; self.out.bytes(), want.out, "{words:?}");
+        assert_eq!(rt; self.report.bytes(), want.report, "{words:?}");
+        assert!(rt; self.out.calls() == 0 || !want.out.is_empty());
+        Ok(())
     }
 
     /// The status of a command of these words.

@@ -7,9 +7,9 @@ use std::process::Abort;
 
 /// Asserts that the word means the instruction, and that it is the instruction's plain word.
 fn assert_pair(rt: &impl Abort, word: u32, insn: Insn) {
-    assert_eq!(rt; decode(word), Some(insn));
+    assert!(rt; decode(word) == Some(insn));
     assert!(rt; fits(insn));
-    assert_eq!(rt; encode(insn), word);
+    assert!(rt; encode(insn) == word);
 }
 
 #[test]
@@ -205,17 +205,17 @@ fn free_bits_and_other_words(rt: HostRuntime) {
         (0x1605_22af, Insn::Lr { rd: 5, rs1 }), // lr.w.aqrl t0, (a0)
         (0x1a75_232f, Insn::Sc { rd, rs1, rs2 }), // sc.w.rl t1, t2, (a0)
     ] {
-        assert_eq!(rt; decode(word), Some(insn));
+        assert!(rt; decode(word) == Some(insn));
     }
     for (word, kind, rd, rs1, rs2) in [
         (0x0c63_a2af, AmoKind::Swap, 5, 7, 6), // amoswap.w.aq t0, t1, (t2)
         (0x06c5_25af, AmoKind::Add, 11, 10, 12), // amoadd.w.aqrl a1, a2, (a0)
     ] {
         let insn = Insn::Amo { kind, rd, rs1, rs2 };
-        assert_eq!(rt; decode(word), Some(insn));
+        assert!(rt; decode(word) == Some(insn));
     }
     for word in NOTHING {
-        assert_eq!(rt; decode(word), None);
+        assert!(rt; decode(word) == None);
     }
 }
 

@@ -96,9 +96,8 @@ fn computes(rt: HostRuntime) {
     for (kind, a, b, want) in cases {
         let insn = Insn::Reg { kind, rd, rs1, rs2 };
         let after = executed(hart_with(a, b), insn, 0, 0);
-        assert_eq!(rt;
-            after.map(|hart| hart.regs[3]),
-            Some(want),
+        assert!(rt;
+            after.map(|hart| hart.regs[3]) == Some(want),
             "{kind:?} of {a} and {b}"
         );
     }
@@ -124,14 +123,13 @@ fn has_register_forms(rt: HostRuntime) {
         let hart = hart_with(0x8000_0010, 5);
         let kind = form;
         let by_register = executed(hart, Insn::Reg { kind, rd, rs1, rs2 }, 0, 0);
-        assert_eq!(rt; by_immediate, by_register, "{kind:?}");
+        assert!(rt; by_immediate == by_register, "{kind:?}");
     }
     // The immediate is sign-extended, also where it is compared unsigned.
     let (kind, rd, rs1, imm) = (ImmKind::Sltiu, 3, 1, -1);
     let sltiu = Insn::Imm { kind, rd, rs1, imm };
-    assert_eq!(rt;
-        executed(hart_with(0xffff_fffe, 0), sltiu, 0, 0).map(|hart| hart.regs[3]),
-        Some(1)
+    assert!(rt;
+        executed(hart_with(0xffff_fffe, 0), sltiu, 0, 0).map(|hart| hart.regs[3]) == Some(1)
     );
 }
 
@@ -155,14 +153,13 @@ fn branches(rt: HostRuntime) {
         let hart = hart_with(a, b);
         let after = executed(hart, branch(kind, -8), 0, 0);
         let want = if is_taken { 0x0000_fff8 } else { 0x0001_0004 };
-        assert_eq!(rt;
-            after.map(|hart| hart.pc),
-            Some(want),
+        assert!(rt;
+            after.map(|hart| hart.pc) == Some(want),
             "{kind:?} of {a} and {b}"
         );
         // Only a taken branch needs an aligned target.
         let ask = begin(&hart, branch(kind, 2));
-        assert_eq!(rt; ask == Ask::Fault(Fault::FetchMisaligned), is_taken);
+        assert!(rt; (ask == Ask::Fault(Fault::FetchMisaligned)) == is_taken);
     }
 }
 
@@ -171,7 +168,7 @@ fn jumps_and_calls(rt: HostRuntime) {
     let (rd, rs1, imm) = (0, 1, 0);
     let to_x1 = Insn::Jalr { rd, rs1, imm };
     let ask = begin(&hart_with(0x0001_000a, 0), to_x1);
-    assert_eq!(rt; ask, Ask::Fault(Fault::FetchMisaligned));
+    assert!(rt; ask == Ask::Fault(Fault::FetchMisaligned));
     let (rd, imm) = (1, 0xffff_f000);
     // An instruction with a word in x1, and x1 and the pc after it.
     for (insn, first, want) in [
@@ -183,13 +180,10 @@ fn jumps_and_calls(rt: HostRuntime) {
     ] {
         let after = executed(hart_with(first, 0), insn, 0, 0);
         let left = after.map(|hart| (hart.regs[1], hart.pc));
-        assert_eq!(rt; left, Some(want), "{insn:?}");
+        assert!(rt; left == Some(want), "{insn:?}");
     }
-    assert_eq!(rt; begin(&hart_with(0, 0), Insn::Ecall), Ask::Ecall);
-    assert_eq!(rt;
-        begin(&hart_with(0, 0), Insn::Ebreak),
-        Ask::Fault(Fault::Break)
-    );
+    assert!(rt; begin(&hart_with(0, 0), Insn::Ecall) == Ask::Ecall);
+    assert!(rt; begin(&hart_with(0, 0), Insn::Ebreak) == Ask::Fault(Fault::Break));
 }
 
 #[test]
@@ -214,9 +208,8 @@ fn loads_and_stores(rt: HostRuntime) {
         let insn = Insn::Load { kind, rd, rs1, imm };
         let hart = hart_with(0x0004_0004_u32.wrapping_add(offset), 0);
         let after = executed(hart, insn, 0, 0x8081_7f02);
-        assert_eq!(rt;
-            after.map(|hart| hart.regs[3]),
-            want,
+        assert!(rt;
+            after.map(|hart| hart.regs[3]) == want,
             "{kind:?} at {offset}"
         );
     }
@@ -240,9 +233,8 @@ fn loads_and_stores(rt: HostRuntime) {
             rs2: 2,
             imm: -4,
         };
-        assert_eq!(rt;
-            stored(&hart, insn, 0, 0x1122_3344),
-            want,
+        assert!(rt;
+            stored(&hart, insn, 0, 0x1122_3344) == want,
             "{kind:?} at {offset}"
         );
     }
@@ -265,15 +257,11 @@ fn updates_atomically(rt: HostRuntime) {
     for (kind, old, value, want) in cases {
         let hart = hart_with(0x0004_0000, value);
         let insn = Insn::Amo { kind, rd, rs1, rs2 };
-        assert_eq!(rt;
-            stored(&hart, insn, 0, old),
-            Some(want),
+        assert!(rt;
+            stored(&hart, insn, 0, old) == Some(want),
             "{kind:?} of {old} and {value}"
         );
-        assert_eq!(rt;
-            executed(hart, insn, 0, old).map(|hart| hart.regs[3]),
-            Some(old)
-        );
+        assert!(rt; executed(hart, insn, 0, old).map(|hart| hart.regs[3]) == Some(old));
     }
 }
 
@@ -282,15 +270,12 @@ fn keeps_and_ends_reservations(rt: HostRuntime) -> Result<(), Fail> {
     let (rd, rs1, rs2) = (3, 1, 2);
     let (lr, sc) = (Insn::Lr { rd, rs1 }, Insn::Sc { rd, rs1, rs2 });
     let reserved = executed(hart_with(0x0004_0000, 5), lr, 7, 9).ok_or("not finished")?;
-    assert_eq!(rt;
-        (reserved.regs[3], reserved.kept),
-        (9, Some((0x0004_0000, 7)))
-    );
+    assert!(rt; (reserved.regs[3], reserved.kept) == (9, Some((0x0004_0000, 7))));
     // The next access stores, a later one does not, and each ends the reservation.
     for (number, word, failed) in [(8, 5, 0), (9, 9, 1)] {
-        assert_eq!(rt; stored(&reserved, sc, number, 9), Some(word));
+        assert!(rt; stored(&reserved, sc, number, 9) == Some(word));
         let after = executed(reserved, sc, number, 9).ok_or("not finished")?;
-        assert_eq!(rt; (after.regs[3], after.kept), (failed, None));
+        assert!(rt; (after.regs[3], after.kept) == (failed, None));
     }
     let unreserved = hart_with(0x0004_0000, 5);
     let ask = Ask::Touch {
@@ -300,7 +285,7 @@ fn keeps_and_ends_reservations(rt: HostRuntime) -> Result<(), Fail> {
             value: 5,
         },
     };
-    assert_eq!(rt; begin(&unreserved, sc), ask);
+    assert!(rt; begin(&unreserved, sc) == ask);
     Ok(())
 }
 
@@ -314,12 +299,12 @@ fn claims_and_numbers(rt: HostRuntime) {
         (Op::Place { len: 3 }, 0xffff_fffe, 1),
     ];
     for (op, payload, want) in cases {
-        assert_eq!(rt; apply(op, 0, payload), want, "{op:?} on {payload}");
+        assert!(rt; apply(op, 0, payload) == want, "{op:?} on {payload}");
     }
     let (low, high) = (6, 8);
     for (want, left) in [(6, 6), (9, 7), (5, 7)] {
         let op = Op::Break { want, low, high };
-        assert_eq!(rt; apply(op, 0, 7), left, "{op:?} on 7");
+        assert!(rt; apply(op, 0, 7) == left, "{op:?} on 7");
     }
     let faults = [
         Fault::Illegal,
@@ -333,6 +318,6 @@ fn claims_and_numbers(rt: HostRuntime) {
         Fault::Break,
     ];
     for (fault, number) in faults.iter().zip(1..10) {
-        assert_eq!(rt; fault.number(), number);
+        assert!(rt; fault.number() == number);
     }
 }

@@ -26,7 +26,7 @@ fn the_bytes_of_each_width(rt: HostRuntime) {
             imm,
         };
         assert!(rt; fits(load));
-        assert_eq!(rt; bytes_touched(&hart, load), bytes);
+        assert!(rt; bytes_touched(&hart, load) == bytes);
     }
     let store = Insn::Store {
         kind: StoreKind::Sb,
@@ -40,8 +40,5 @@ fn the_bytes_of_each_width(rt: HostRuntime) {
         rs1: 1,
         rs2: 5,
     };
-    assert_eq!(rt;
-        (bytes_touched(&hart, store), bytes_touched(&hart, swap)),
-        (0b0100, 0b1111)
-    );
+    assert!(rt; (bytes_touched(&hart, store), bytes_touched(&hart, swap)) == (0b0100, 0b1111));
 }

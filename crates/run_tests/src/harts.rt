@@ -22,17 +22,18 @@ const LIMIT: u32 = 10;
 const TOP: u32 = 11;
 
 /// A hart, the memory, the ring of one record and the lane of its turns, and the taker of the ring.
-type Stage = (
-    HartActor,
-    SharedMemory,
-    Ring<Record>,
-    Lane<Reply>,
-    RingTaker<Record>,
-);
+#[derive(Drop)]
+struct Stage {
+    hart: HartActor,
+    memory: SharedMemory,
+    items: Ring<Record>,
+    replies: Lane<Reply>,
+    taken: RingTaker<Record>,
+}
 
-fn stage(alloc: Global, guest: &Guest) -> Result<Stage, Fail>
-    ensures hart { IfOk result (λ made. AreOf made.0 guest.now made.1 made.2 made.3) }
-    ensures taker { IfOk result (λ made. IsTakerOf made.2 made.4) }
+fn open_stage(alloc: Global, guest: &Guest) -> Result<Stage, Fail>
+    ensures hart { IfOk result (λ made. AreOf made.hart guest.now made.memory made.items made.replies) }
+    ensures taker { IfOk result (λ made. IsTakerOf made.items made.taken) }
 {
     if guest.image().cores() == 0 {
         return Err(Fail::new("no core"));
@@ -43,7 +44,13 @@ fn stage(alloc: Global, guest: &Guest) -> Result<Stage, Fail>
     let (items, sender, taken) = Ring::<Record>::create(alloc, 1, words, TOP)?;
     let (replies, _answers, taker) = Lane::<Reply>::create(alloc, 1, words, TOP)?;
     let hart = HartActor::create(alloc, 0, guest, BUDGET, pass, sender, taker)?;
-    Ok((hart, memory, items, replies, taken))
+    Ok(Stage {
+        hart,
+        memory,
+        items,
+        replies,
+        taken,
+    })
 }
 
 /// A turn of up to 100 units, and how many units the hart has done after it.
@@ -76,16 +83,22 @@ fn next_quiet(items: &Ring<Record>, taken: &mut RingTaker<Record>) -> Option<u32
 #[test]
 fn a_ring_of_one_record_stops_its_hart(rt: HostRuntime) -> Result<(), Fail> {
     let guest = guest_of(rt.alloc(), &COUNT, 1)?;
-    let (mut hart, memory, items, replies, mut taken) = stage(rt.alloc(), &guest)?;
+    let Stage {
+        mut hart,
+        memory,
+        items,
+        replies,
+        mut taken,
+    } = open_stage(rt.alloc(), &guest)?;
     let first = turn_of(&rt, &mut hart, &guest, &memory, &items, &replies);
     let second = turn_of(&rt, &mut hart, &guest, &memory, &items, &replies);
     let record = next_quiet(&items, &mut taken);
     let third = turn_of(&rt, &mut hart, &guest, &memory, &items, &replies);
-    assert_eq!(rt; first, (HartTurn::Went, 2));
-    assert_eq!(rt; second, (HartTurn::Full, 2));
-    assert_eq!(rt; record, Some(0));
-    assert_eq!(rt; third, (HartTurn::Went, 3));
-    assert_eq!(rt; next_quiet(&items, &mut taken), Some(1));
-    assert_eq!(rt; next_quiet(&items, &mut taken), None);
+    assert!(rt; first == (HartTurn::Went, 2));
+    assert!(rt; second == (HartTurn::Full, 2));
+    assert!(rt; record == Some(0));
+    assert!(rt; third == (HartTurn::Went, 3));
+    assert!(rt; next_quiet(&items, &mut taken) == Some(1));
+    assert!(rt; next_quiet(&items, &mut taken) == None);
     Ok(())
 }

@@ -37,12 +37,9 @@ end
 #[test]
 fn reads_a_whole_report(rt: HostRuntime) -> Result<(), Fail> {
     let saved = read_report(rt.alloc(), HI_REPORT.as_bytes())?;
-    assert_eq!(rt;
-        (saved.cores, saved.budget, saved.limit),
-        (1, 1048576, 4294967280)
-    );
-    assert_eq!(rt; (saved.stack, saved.heap), (16, 256));
-    assert_eq!(rt; saved.order.as_slice(), [0; 13].as_slice());
+    assert!(rt; (saved.cores, saved.budget, saved.limit) == (1, 1048576, 4294967280));
+    assert!(rt; (saved.stack, saved.heap) == (16, 256));
+    assert!(rt; saved.order.as_slice() == [0; 13].as_slice());
     Ok(())
 }
 
@@ -69,9 +66,8 @@ fn tells_the_first_bad_line(rt: HostRuntime) -> Result<(), Fail> {
         bytes.extend_from_slice(&report[to..])?;
         assert!(rt; bytes.len() <= 1000);
         let fault = read_report(rt.alloc(), &bytes).err();
-        assert_eq!(rt;
-            fault,
-            Some(ReportFault::Bad { line, kind }),
+        assert!(rt;
+            fault == Some(ReportFault::Bad { line, kind }),
             "{with} from {from} to {to}"
         );
     }
@@ -81,7 +77,7 @@ fn tells_the_first_bad_line(rt: HostRuntime) -> Result<(), Fail> {
 #[test]
 fn leaves_the_order_to_a_run(rt: HostRuntime) -> Result<(), Fail> {
     let report = HI_REPORT.as_bytes();
-    assert_eq!(rt; report.len(), 349);
+    assert!(rt; report.len() == 349);
     let mut bytes = Vec::new(rt.alloc());
     bytes.extend_from_slice(&report[..80])?;
     bytes.extend_from_slice(b"2")?;
@@ -89,6 +85,6 @@ fn leaves_the_order_to_a_run(rt: HostRuntime) -> Result<(), Fail> {
     bytes.extend_from_slice(&report[135..])?;
     assert!(rt; bytes.len() <= 1000);
     let saved = read_report(rt.alloc(), &bytes)?;
-    assert_eq!(rt; saved.order.as_slice(), [0; 12].as_slice());
+    assert!(rt; saved.order.as_slice() == [0; 12].as_slice());
     Ok(())
 }

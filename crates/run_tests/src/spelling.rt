@@ -59,7 +59,7 @@ fn tells_numbers_units_and_meetings(rt: HostRuntime) {
     ] {
         block.clear();
         push_line(&mut block, &line);
-        assert_eq!(rt; block.as_bytes(), want.as_bytes(), "{want}");
+        assert!(rt; block.as_bytes() == want.as_bytes(), "{want}");
     }
 }
 
@@ -86,6 +86,6 @@ fn tells_traps_and_ends(rt: HostRuntime) {
     ] {
         block.clear();
         push_line(&mut block, &line);
-        assert_eq!(rt; block.as_bytes(), want.as_bytes(), "{want}");
+        assert!(rt; block.as_bytes() == want.as_bytes(), "{want}");
     }
 }

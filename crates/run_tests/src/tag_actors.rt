@@ -82,22 +82,23 @@ const JUMPED: Trap = Trap {
 };
 
 /// A memory of four words for two cores with the pass of the other core, a ring with its sender, a lane with its taker, and the actor.
-type Stage = (
-    TagMemory,
-    Pass,
-    Ring<Record>,
-    RingSender<Record>,
-    Lane<Reply>,
-    Taker<Reply>,
-    TagActor,
-);
+#[derive(Drop)]
+struct Stage {
+    memory: TagMemory,
+    other: Pass,
+    items: Ring<Record>,
+    records: RingSender<Record>,
+    replies: Lane<Reply>,
+    answers: Taker<Reply>,
+    actor: TagActor,
+}
 
-fn stage(alloc: Global) -> Result<Stage, NoMemory>
-    ensures actor { IfOk result (λ made. AreOf made.0 made.2 made.4 made.6) }
-    ensures other { IfOk result (λ made. MayServe made.0 made.1 3 0) }
-    ensures sender { IfOk result (λ made. IsSenderOf made.2 made.3 × (sent_by made.3 ≡ [])) }
-    ensures taker { IfOk result (λ made. IsTakerOf made.4 made.5) }
-    ensures numbers { IfOk result (λ made. (word_count_of made.2 ≡ 4) × (top_of made.2 ≡ 12)) }
+fn open_stage(alloc: Global) -> Result<Stage, NoMemory>
+    ensures actor { IfOk result (λ made. AreOf made.memory made.items made.replies made.actor) }
+    ensures other { IfOk result (λ made. MayServe made.memory made.other 3 0) }
+    ensures sender { IfOk result (λ made. IsSenderOf made.items made.records × (sent_by made.records ≡ [])) }
+    ensures taker { IfOk result (λ made. IsTakerOf made.replies made.answers) }
+    ensures numbers { IfOk result (λ made. (word_count_of made.items ≡ 4) × (top_of made.items ≡ 12)) }
 {
     let (memory, mut passes) = TagMemory::create(alloc, 4, 2, 10)?;
     let Some(other) = passes.pop() else {
@@ -109,7 +110,15 @@ fn stage(alloc: Global) -> Result<Stage, NoMemory>
     let (items, records, taker) = Ring::create(alloc, 4, 4, 12)?;
     let (replies, sender, answers) = Lane::create(alloc, 1, 4, 12)?;
     let actor = TagActor::create(Policy::standard(), pass, taker, sender);
-    Ok((memory, other, items, records, replies, answers, actor))
+    Ok(Stage {
+        memory,
+        other,
+        items,
+        records,
+        replies,
+        answers,
+        actor,
+    })
 }
 
 /// A turn of so many records at most, and how many records the actor has consumed after it.
@@ -131,39 +140,63 @@ fn turn_of<R: Wait>(
 
 #[test]
 fn an_access_waits_for_the_one_before(rt: HostRuntime) -> Result<(), Fail> {
-    let (memory, mut other, items, mut records, replies, _answers, mut actor) = stage(rt.alloc())?;
+    let Stage {
+        memory,
+        mut other,
+        items,
+        mut records,
+        replies,
+        answers: _answers,
+        mut actor,
+    } = open_stage(rt.alloc())?;
     let empty = turn_of(&rt, &mut actor, &memory, &items, &replies, 9);
     let _ = items.send(&mut records, FILL);
     let took = turn_of(&rt, &mut actor, &memory, &items, &replies, 9);
     let waits = turn_of(&rt, &mut actor, &memory, &items, &replies, 9);
     memory.serve(&mut other, 3, 0, Op::Read);
     let served = turn_of(&rt, &mut actor, &memory, &items, &replies, 9);
-    assert_eq!(rt; empty, (TagTurn::Empty, 0));
-    assert_eq!(rt; took, (TagTurn::Went, 0));
-    assert_eq!(rt; waits, (NOT_YET, 0));
-    assert_eq!(rt; served, (TagTurn::Went, 1));
+    assert!(rt; empty == (TagTurn::Empty, 0));
+    assert!(rt; took == (TagTurn::Went, 0));
+    assert!(rt; waits == (NOT_YET, 0));
+    assert!(rt; served == (TagTurn::Went, 1));
     Ok(())
 }
 
 #[test]
 fn a_meeting_waits_until_the_reply_before_is_taken(rt: HostRuntime) -> Result<(), Fail> {
-    let (memory, _other, items, mut records, replies, mut answers, mut actor) = stage(rt.alloc())?;
+    let Stage {
+        memory,
+        other: _other,
+        items,
+        mut records,
+        replies,
+        mut answers,
+        mut actor,
+    } = open_stage(rt.alloc())?;
     let _ = items.send(&mut records, MEET);
     let _ = items.send(&mut records, MEET);
     let replied = turn_of(&rt, &mut actor, &memory, &items, &replies, 9);
     let waits = turn_of(&rt, &mut actor, &memory, &items, &replies, 9);
     let reply = replies.take(&rt, &mut answers);
     let again = turn_of(&rt, &mut actor, &memory, &items, &replies, 9);
-    assert_eq!(rt; replied, (TagTurn::Went, 1));
-    assert_eq!(rt; waits, (TagTurn::ReplyFull, 1));
-    assert_eq!(rt; reply, Got::Item(GO));
-    assert_eq!(rt; again, (TagTurn::Went, 2));
+    assert!(rt; replied == (TagTurn::Went, 1));
+    assert!(rt; waits == (TagTurn::ReplyFull, 1));
+    assert!(rt; reply == Got::Item(GO));
+    assert!(rt; again == (TagTurn::Went, 2));
     Ok(())
 }
 
 #[test]
 fn a_core_that_jumps_by_input_is_trapped(rt: HostRuntime) -> Result<(), Fail> {
-    let (memory, mut other, items, mut records, replies, _answers, mut actor) = stage(rt.alloc())?;
+    let Stage {
+        memory,
+        mut other,
+        items,
+        mut records,
+        replies,
+        answers: _answers,
+        mut actor,
+    } = open_stage(rt.alloc())?;
     memory.serve(&mut other, 3, 0, Op::Read);
     let _ = items.send(&mut records, FILL);
     let _ = items.send(&mut records, LOAD);
@@ -172,11 +205,11 @@ fn a_core_that_jumps_by_input_is_trapped(rt: HostRuntime) -> Result<(), Fail> {
     let one = turn_of(&rt, &mut actor, &memory, &items, &replies, 1);
     let others = turn_of(&rt, &mut actor, &memory, &items, &replies, 9);
     let after = turn_of(&rt, &mut actor, &memory, &items, &replies, 9);
-    assert_eq!(rt; one, (TagTurn::Went, 1));
-    assert_eq!(rt; others, (TagTurn::Ended, 4));
-    assert_eq!(rt; after, (TagTurn::Ended, 4));
+    assert!(rt; one == (TagTurn::Went, 1));
+    assert!(rt; others == (TagTurn::Ended, 4));
+    assert!(rt; after == (TagTurn::Ended, 4));
     if actor.ended() {
-        assert_eq!(rt; actor.finish().trap, Some(JUMPED));
+        assert!(rt; actor.finish().trap == Some(JUMPED));
     }
     Ok(())
 }

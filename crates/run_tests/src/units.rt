@@ -43,7 +43,7 @@ fn spend(core: &mut CoreState, guest: &Guest, word: u32) -> Option<CoreAsk> {
 #[test]
 fn hi_prints_and_exits(rt: HostRuntime) -> Result<(), Fail> {
     let guest = guest_of(rt.alloc(), &HI, 1)?;
-    assert_eq!(rt; guest.image().entry() % 4, 0);
+    assert!(rt; guest.image().entry() % 4 == 0);
     let mut core = CoreState::create(0, &guest, 1048576);
     let meeting = |step, pc, call, kind| CoreAsk::Meet {
         item: Record::Meet {
@@ -75,11 +75,11 @@ fn hi_prints_and_exits(rt: HostRuntime) -> Result<(), Fail> {
         meeting(12, 0x0001_0020, 93, MeetKind::Call),
     ];
     for ask in asks {
-        assert_eq!(rt; spend(&mut core, &guest, 0x000a_6968), Some(ask));
+        assert!(rt; spend(&mut core, &guest, 0x000a_6968) == Some(ask));
     }
-    assert_eq!(rt; core.next(&guest).ask, CoreAsk::Ended);
-    assert_eq!(rt; core.end(), Some(End::Exit(0)));
-    assert_eq!(rt; core.units(), 13);
-    assert_eq!(rt; core.gathered(), b"hi\n".as_slice());
+    assert!(rt; core.next(&guest).ask == CoreAsk::Ended);
+    assert!(rt; core.end() == Some(End::Exit(0)));
+    assert!(rt; core.units() == 13);
+    assert!(rt; core.gathered() == b"hi\n".as_slice());
     Ok(())
 }

@@ -32,12 +32,11 @@ fn with_byte(mut bytes: Vec<u8>, place: usize, value: u8) -> Vec<u8> {
 fn hello_is_laid_out(rt: HostRuntime) -> Result<(), Fail> {
     let bytes = hi_image(rt.alloc())?;
     let image = loaded(rt.alloc(), &bytes, 1, 16, 256)?;
-    assert_eq!(rt; (image.cores(), image.stack(), image.heap()), (1, 16, 256));
-    assert_eq!(rt;
-        (image.entry(), image.break_base(), image.heap_end()),
-        (0x1_0000, 0x1_1000, 0x11_1000)
+    assert!(rt; (image.cores(), image.stack(), image.heap()) == (1, 16, 256));
+    assert!(rt;
+        (image.entry(), image.break_base(), image.heap_end()) == (0x1_0000, 0x1_1000, 0x11_1000)
     );
-    assert_eq!(rt; image.words(), 279_555);
+    assert!(rt; image.words() == 279_555);
     for (address, word) in [
         (0x1_0000, Some(3)),
         (0x1_0027, Some(12)),
@@ -48,12 +47,8 @@ fn hello_is_laid_out(rt: HostRuntime) -> Result<(), Fail> {
         (0x11_1000, None),
         (0xffff, None),
     ] {
-        assert_eq!(rt; image.word_of(address), word, "word of {address:x}");
-        assert_eq!(rt;
-            image.writable(address),
-            word.is_some(),
-            "writable {address:x}"
-        );
+        assert!(rt; image.word_of(address) == word);
+        assert!(rt; image.writable(address) == word.is_some());
     }
     for (pc, word) in [
         (0x1_0000, Some(0x0001_05b7)),
@@ -63,7 +58,7 @@ fn hello_is_laid_out(rt: HostRuntime) -> Result<(), Fail> {
         (0x1_1000, None),
         (0, None),
     ] {
-        assert_eq!(rt; image.fetch(pc), word, "fetch {pc:x}");
+        assert!(rt; image.fetch(pc) == word);
     }
     for (word, value) in [
         (0, 0),
@@ -74,44 +69,35 @@ fn hello_is_laid_out(rt: HostRuntime) -> Result<(), Fail> {
         (279_554, 0),
     ] {
         assert!(rt; word < image.words());
-        assert_eq!(rt; image.first_word(word), value, "first value of {word}");
+        assert!(rt; image.first_word(word) == value);
     }
-    assert_eq!(rt; image.segments(), 1);
-    assert_eq!(rt; image.segment(0), Some((0x1_0000, 0x1_0028, 7)));
-    assert_eq!(rt; image.segment(1), None);
+    assert!(rt; image.segments() == 1);
+    assert!(rt; image.segment(0) == Some((0x1_0000, 0x1_0028, 7)));
+    assert!(rt; image.segment(1) == None);
     Ok(())
 }
 
 #[test]
 fn echo_has_two_segments(rt: HostRuntime) -> Result<(), Fail> {
     let bytes = plain_echo(rt.alloc())?;
-    assert_eq!(rt; bytes.len(), 0x1004);
+    assert!(rt; bytes.len() == 0x1004);
     let image = loaded(rt.alloc(), &bytes, 1, 16, 256)?;
-    assert_eq!(rt; image.entry(), 0x1_00b4);
-    assert_eq!(rt; image.segments(), 2);
-    assert_eq!(rt; image.segment(0), Some((0x1_0000, 0x1_00f0, 5)));
-    assert_eq!(rt; image.segment(1), Some((0x1_1000, 0x1_1010, 6)));
-    assert_eq!(rt;
-        (image.break_base(), image.heap_end()),
-        (0x1_2000, 0x11_2000)
-    );
-    assert_eq!(rt; image.words(), 280_579);
-    assert_eq!(rt;
-        (image.writable(0x1_0000), image.writable(0x1_1000)),
-        (false, true)
-    );
-    assert_eq!(rt;
-        (image.fetch(0x1_00b4), image.fetch(0x1_1000)),
-        (Some(0xfc01_0113), None)
-    );
+    assert!(rt; image.entry() == 0x1_00b4);
+    assert!(rt; image.segments() == 2);
+    assert!(rt; image.segment(0) == Some((0x1_0000, 0x1_00f0, 5)));
+    assert!(rt; image.segment(1) == Some((0x1_1000, 0x1_1010, 6)));
+    assert!(rt; (image.break_base(), image.heap_end()) == (0x1_2000, 0x11_2000));
+    assert!(rt; image.words() == 280_579);
+    assert!(rt; (image.writable(0x1_0000), image.writable(0x1_1000)) == (false, true));
+    assert!(rt; (image.fetch(0x1_00b4), image.fetch(0x1_1000)) == (Some(0xfc01_0113), None));
     assert!(rt; 1027 < image.words());
-    assert_eq!(rt; image.first_word(1027), 1);
+    assert!(rt; image.first_word(1027) == 1);
     Ok(())
 }
 
 #[test]
 fn damage_has_its_fault(rt: HostRuntime) -> Result<(), Fail> {
-    assert_eq!(rt; fault_of(rt.alloc(), &[]), Some(ImageFault::Short));
+    assert!(rt; fault_of(rt.alloc(), &[]) == Some(ImageFault::Short));
     for (place, value, fault) in [
         (0, 0x7e, Some(ImageFault::Magic)),
         (4, 2, Some(ImageFault::Class)),
@@ -139,18 +125,12 @@ fn damage_has_its_fault(rt: HostRuntime) -> Result<(), Fail> {
         (80, 5, None),
     ] {
         let bytes = with_byte(hi_image(rt.alloc())?, place, value);
-        assert_eq!(rt; fault_of(rt.alloc(), &bytes), fault, "{value} at {place}");
+        assert!(rt; fault_of(rt.alloc(), &bytes) == fault, "{value} at {place}");
     }
     let overlapping = with_byte(plain_echo(rt.alloc())?, 52 + 64 + 9, 0);
-    assert_eq!(rt;
-        fault_of(rt.alloc(), &overlapping),
-        Some(ImageFault::Overlap)
-    );
+    assert!(rt; fault_of(rt.alloc(), &overlapping) == Some(ImageFault::Overlap));
     let bytes = hi_image(rt.alloc())?;
-    assert_eq!(rt; loaded(rt.alloc(), &bytes, 8, 480, 255).err(), None);
-    assert_eq!(rt;
-        loaded(rt.alloc(), &bytes, 8, 480, 256).err(),
-        Some(ImageFault::TooLarge)
-    );
+    assert!(rt; loaded(rt.alloc(), &bytes, 8, 480, 255).err() == None);
+    assert!(rt; loaded(rt.alloc(), &bytes, 8, 480, 256).err() == Some(ImageFault::TooLarge));
     Ok(())
 }

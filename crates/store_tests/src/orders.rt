@@ -39,17 +39,11 @@ fn worked_logs_merge_and_walk_to_0_1_0(rt: HostRuntime) -> Result<(), Fail> {
     assert!(rt; all_touch_below(&logs, 6));
     let mut room = MergeRoom::create(alloc, 6, 3)?;
     merge(&logs, &mut room);
-    assert_eq!(rt; room.order().as_slice(), [0, 1, 0].as_slice());
+    assert!(rt; room.order().as_slice() == [0, 1, 0].as_slice());
     let mut walk = Walk::create(alloc, 6, 2)?;
-    assert_eq!(rt;
-        next_four(&mut walk, &logs),
-        [Some(0), Some(1), Some(0), None]
-    );
+    assert!(rt; next_four(&mut walk, &logs) == [Some(0), Some(1), Some(0), None]);
     walk.restart();
-    assert_eq!(rt;
-        next_four(&mut walk, &logs),
-        [Some(0), Some(1), Some(0), None]
-    );
+    assert!(rt; next_four(&mut walk, &logs) == [Some(0), Some(1), Some(0), None]);
     Ok(())
 }
 
@@ -59,8 +53,8 @@ fn one_empty_log_gives_no_core(rt: HostRuntime) -> Result<(), Fail> {
     let logs = vec![in alloc; CoreLog::create(alloc, 0)?]?;
     let mut room = MergeRoom::create(alloc, 0, 0)?;
     merge(&logs, &mut room);
-    assert_eq!(rt; room.order().len(), 0);
+    assert!(rt; room.order().len() == 0);
     let mut walk = Walk::create(alloc, 0, 1)?;
-    assert_eq!(rt; walk.next(&logs), None);
+    assert!(rt; walk.next(&logs) == None);
     Ok(())
 }

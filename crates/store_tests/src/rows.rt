@@ -47,13 +47,10 @@ fn a_bound_of_one_is_full_after_a_send_and_empty_after_a_take(rt: HostRuntime) -
     };
     let stop = Reply { stop: true, ..go };
     for (first, second) in [(touch, meet), (meet, touch)] {
-        assert_eq!(rt;
-            lane_row(&rt, alloc, first, second)?,
-            expected(first, second)
-        );
-        assert_eq!(rt; ring_row(alloc, first, second)?, expected(first, second));
+        assert!(rt; lane_row(&rt, alloc, first, second)? == expected(first, second));
+        assert!(rt; ring_row(alloc, first, second)? == expected(first, second));
     }
-    assert_eq!(rt; lane_row(&rt, alloc, go, stop)?, expected(go, stop));
-    assert_eq!(rt; ring_row(alloc, go, stop)?, expected(go, stop));
+    assert!(rt; lane_row(&rt, alloc, go, stop)? == expected(go, stop));
+    assert!(rt; ring_row(alloc, go, stop)? == expected(go, stop));
     Ok(())
 }

@@ -12,10 +12,10 @@ fn sends_and_serves(rt: HostRuntime) -> Result<(), Fail> {
     system.commit(1, Shape::Touch(0));
     assert!(rt; system.can_act(Move::Send(1)));
     system.act(Move::Send(1));
-    assert_eq!(rt; system.some_move(), Some(Move::Send(0)));
+    assert!(rt; system.some_move() == Some(Move::Send(0)));
     assert!(rt; system.can_act(Move::Send(0)));
     system.act(Move::Send(0));
-    assert_eq!(rt; system.some_move(), Some(Move::Serve(0)));
+    assert!(rt; system.some_move() == Some(Move::Serve(0)));
     Ok(())
 }
 
@@ -25,21 +25,18 @@ fn meets_and_ends(rt: HostRuntime) -> Result<(), Fail> {
     assert!(rt; system.can_commit(0));
     system.commit(0, Shape::Meet);
     for step in [Move::Send(0), Move::Reply(0), Move::Resume(0)] {
-        assert_eq!(rt;
-            (system.can_commit(0), system.some_move()),
-            (false, Some(step))
-        );
+        assert!(rt; (system.can_commit(0), system.some_move()) == (false, Some(step)));
         assert!(rt; system.can_act(step));
         system.act(step);
     }
-    assert_eq!(rt; system.some_move(), None);
+    assert!(rt; system.some_move() == None);
     assert!(rt; system.can_commit(0));
     system.commit(0, Shape::End);
     for step in [Move::Send(0), Move::Serve(0)] {
-        assert_eq!(rt; system.some_move(), Some(step));
+        assert!(rt; system.some_move() == Some(step));
         assert!(rt; system.can_act(step));
         system.act(step);
     }
-    assert_eq!(rt; (system.can_commit(0), system.some_move()), (false, None));
+    assert!(rt; (system.can_commit(0), system.some_move()) == (false, None));
     Ok(())
 }

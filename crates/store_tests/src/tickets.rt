@@ -17,26 +17,17 @@ fn numbered_words_row(rt: HostRuntime) -> Result<(), Fail> {
         value: 0x1234_5678,
     };
     let read = table.take(&mut pass, 0, Op::Read);
-    assert_eq!(rt; (read.number, read.old, read.spent), (0, 5, false));
+    assert!(rt; (read.number, read.old, read.spent) == (0, 5, false));
     let written = table.take(&mut pass, 0, write);
-    assert_eq!(rt; (written.number, written.old, written.spent), (1, 5, false));
+    assert!(rt; (written.number, written.old, written.spent) == (1, 5, false));
     passes.push(pass)?;
     let closed = table.close(passes);
-    assert_eq!(rt;
-        (payload(closed.word(0)), number(closed.word(0))),
-        (0x1234_0005, 2)
-    );
+    assert!(rt; (payload(closed.word(0)), number(closed.word(0))) == (0x1234_0005, 2));
 
     let (table, mut passes) = TicketTable::create(rt.alloc(), &[0], 1, 10, Role::Serve)?;
     let mut pass = passes.pop().ok_or("a pass")?;
-    assert_eq!(rt;
-        table.serve(&mut pass, 0, 1, Op::Read),
-        Served::NotYet { seen: 0 }
-    );
-    assert_eq!(rt;
-        table.serve(&mut pass, 0, 0, Op::Read),
-        Served::Done { old: 0 }
-    );
+    assert!(rt; table.serve(&mut pass, 0, 1, Op::Read) == Served::NotYet { seen: 0 });
+    assert!(rt; table.serve(&mut pass, 0, 0, Op::Read) == Served::Done { old: 0 });
     Ok(())
 }
 
@@ -79,14 +70,11 @@ fn two_threads_draw_each_number_once(rt: HostRuntime) -> Result<(), Fail> {
     passes.push(first)?;
     passes.push(second)?;
     let closed = table.close(passes);
-    assert_eq!(rt;
-        (payload(closed.word(0)), number(closed.word(0))),
-        (7, 2000)
-    );
+    assert!(rt; (payload(closed.word(0)), number(closed.word(0))) == (7, 2000));
     let mut drawn = numbers;
     drawn.extend_from_slice(others.as_slice())?;
     drawn.sort()?;
-    assert_eq!(rt; drawn.len(), 2000);
+    assert!(rt; drawn.len() == 2000);
     for (place, number) in drawn.iter().enumerate() {
         assert_eq!(rt; *number as usize, place);
     }

@@ -188,13 +188,12 @@ fn check(
     let mut expected = tainted();
     assert!(rt; tag < 16);
     expected.set(8, tag);
-    assert_eq!(rt; asks_of(ask), asks, "{item:?}");
-    assert_eq!(rt; file.tags(), expected.tags(), "{item:?}");
+    assert!(rt; asks_of(ask) == asks, "{item:?}");
+    assert!(rt; file.tags() == expected.tags(), "{item:?}");
     match file.trap() {
-        None => assert_eq!(rt; 0, kind, "{item:?}"),
-        Some(trap) => assert_eq!(rt;
-            trap,
-            Trap {
+        None => assert!(rt; 0 == kind, "{item:?}"),
+        Some(trap) => assert!(rt;
+            trap == Trap {
                 step: 3,
                 pc: 0x0001_0000,
                 kind,
@@ -243,7 +242,7 @@ fn instructions_without_an_access(rt: HostRuntime) {
     for (word, tag, kind) in cases {
         let item = quiet(word, false).expect(&rt, "an instruction without an access");
         let file = check(&rt, Version::WordTags, item, 0, Asks::Nothing, tag, kind);
-        assert_eq!(rt; file.buffer(), 3);
+        assert!(rt; file.buffer() == 3);
     }
 }
 
@@ -324,11 +323,11 @@ fn calls(rt: HostRuntime) {
     for (call, kind) in [(63, 6), (64, 6), (93, 0), (94, 0), (214, 0), (5, 0)] {
         let item = meeting(call, MeetKind::Call);
         let file = check(&rt, Version::WordTags, item, 0, Asks::Replies, 15, kind);
-        assert_eq!(rt; file.buffer(), 0);
+        assert!(rt; file.buffer() == 0);
     }
     let verdict = meeting(64, MeetKind::Verdict);
     let file = check(&rt, Version::WordTags, verdict, 0, Asks::Replies, 15, 7);
-    assert_eq!(rt; file.buffer(), 3);
+    assert!(rt; file.buffer() == 3);
 }
 
 #[test]
@@ -361,7 +360,7 @@ fn accesses_of_calls(rt: HostRuntime) {
     for (version, why, found, asks, buffer) in cases {
         assert!(rt; is_sound(why));
         let file = check(&rt, version, touch(why), found, asks, 15, 0);
-        assert_eq!(rt; file.buffer(), buffer, "{why:?}");
+        assert!(rt; file.buffer() == buffer, "{why:?}");
     }
 }
 
@@ -381,7 +380,7 @@ fn the_first_trap_stays(rt: HostRuntime) {
     file.consume(&policy, &meeting(64, MeetKind::Call));
     file.consume(&policy, &Record::Blank { step: 4, pc: 0 });
     file.consume(&policy, &Record::Back { step: 5, pc: 0 });
-    assert_eq!(rt; file.consume(&policy, &Record::End), TagAsk::Ended);
-    assert_eq!(rt; file.trap(), Some(first));
-    assert_eq!(rt; file.tag(10), 0);
+    assert!(rt; file.consume(&policy, &Record::End) == TagAsk::Ended);
+    assert!(rt; file.trap() == Some(first));
+    assert!(rt; file.tag(10) == 0);
 }

@@ -135,8 +135,7 @@ fn try_meeting<X: Abort + Threads + Wait + Sync>(
         ..plain("count", &count, 0, b"", b"0 exit 0\n1 exit 0\nend\n")
     };
     try_case_at(rt, alloc, &case, gate)?;
-    let held = gate.held;
-    assert!(rt; gate.has_met(), "{held:?}");
+    assert!(rt; gate.has_met());
     Ok(())
 }
 
@@ -197,7 +196,7 @@ fn a_reservation_stands_or_falls_whichever_turn_is_held(rt: HostRuntime) -> Resu
         for turn in 0..20 {
             let gate = HoldGate::new(held, turn);
             let (status, around) = left_by(&rt, alloc, &case, &gate)?;
-            assert!(rt; status <= 1, "{held:?} at turn {turn}: {status}");
+            assert!(rt; status <= 1);
             try_replay(&rt, alloc, &case, around.report.bytes())?;
         }
     }
@@ -216,8 +215,7 @@ fn a_store_is_found_whichever_turn_is_held(rt: HostRuntime) -> Result<(), Fail> 
         for turn in [0, 7] {
             let gate = HoldGate::new(held, turn);
             let around = try_case_at(&rt, alloc, &case, &gate)?;
-            let is_found = a_store_was_found(around.report.bytes())?;
-            assert!(rt; is_found, "{held:?} at turn {turn}");
+            assert!(rt; a_store_was_found(around.report.bytes())?);
         }
     }
     Ok(())

@@ -1,10 +1,6 @@
 //! Guests that run to their ends.
 use super::*;
 use guest_images::{COUNT, HEADERS, LRSC};
-use inline_tracker::{Setup, Stepped, Tracker, status_of};
-use syscall_drain::End;
-use tag_policy::Policy;
-use test_guests::guest_of;
 
 /// `hi` with its buffer at address 0 and with no `li a0, 0`: exits with the low byte of -14.
 const NO_BUFFER: [u32; 10] = [
@@ -77,10 +73,13 @@ fn hi_has_its_whole_report(rt: HostRuntime) -> Result<(), Fail> {
     let bytes = image_of(alloc, &HI)?;
     let mut around = Surroundings::ample(alloc, &bytes)?;
     let words = ["run", "--image=guest.elf", "--cores=1"];
-    assert_eq!(rt; around.command(&rt, alloc, &words)?, 0);
-    assert_eq!(rt; around.out.bytes(), HI_OUTPUT);
-    assert_eq!(rt; around.report.bytes(), HI_REPORT);
-    assert_eq!(rt; around.report.bytes().len(), 349);
+    let want = Outcome {
+        status: 0,
+        out: HI_OUTPUT,
+        report: HI_REPORT,
+    };
+    around.try_command(&rt, alloc, &words, &want)?;
+    assert!(rt; around.report.bytes().len() == 349);
     Ok(())
 }
 
@@ -227,29 +226,4 @@ fn a_write_crosses_pages_and_pages_join_permissions(rt: HostRuntime) -> Result<(
             b"traps 0\nends 1\n0 exit 1\nend\n",
         ),
     )
-}
-
-#[test]
-fn a_store_of_another_core_ends_a_reservation(rt: HostRuntime) -> Result<(), Fail> {
-    let alloc = rt.alloc();
-    // The order of the cores' units, and the ends of core 0 and core 1.
-    let cases: [([u8; 14], End, u8); 2] = [
-        ([0, 0, 0, 1, 1, 1, 0, 0, 0, 0, 0, 1, 1, 1], End::Exit(1), 1),
-        ([0, 0, 0, 0, 0, 0, 0, 0, 1, 1, 1, 1, 1, 1], End::Exit(0), 0),
-    ];
-    for (order, end, class) in cases {
-        let guest = guest_of(alloc, &LRSC, 2)?;
-        let setup = Setup::new(guest, Policy::standard(), 1_048_576, 4_294_967_280);
-        let mut tracker = Tracker::create(alloc, &setup)?;
-        for core in order {
-            assert_eq!(rt; tracker.step(core), Stepped::Went);
-        }
-        let first = tracker.outcome(0).ok_or("has not ended")?;
-        assert_eq!(rt; first.end, end);
-        let second = tracker.outcome(1).ok_or("has not ended")?;
-        assert_eq!(rt; second.end, End::Exit(0));
-        let finished = tracker.finish().ok().ok_or("is not finished")?;
-        assert_eq!(rt; status_of(&finished), class);
-    }
-    Ok(())
 }

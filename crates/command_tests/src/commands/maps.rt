@@ -66,9 +66,12 @@ fn maps_are_told(rt: HostRuntime) -> Result<(), Fail> {
     ];
     for (words, bytes, status, out, report) in cases {
         let mut around = Surroundings::ample(alloc, bytes)?;
-        assert_eq!(rt; around.command(&rt, alloc, words)?, status, "{words:?}");
-        assert_eq!(rt; around.out.bytes(), out, "{words:?}");
-        assert_eq!(rt; around.report.bytes(), report, "{words:?}");
+        let want = Outcome {
+            status,
+            out,
+            report,
+        };
+        around.try_command(&rt, alloc, words, &want)?;
     }
     Ok(())
 }

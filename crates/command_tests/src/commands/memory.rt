@@ -7,9 +7,7 @@ use super::*;
 struct Answer<'a> {
     words: &'a [&'a str],
     image: &'a [u8],
-    status: u8,
-    out: &'a [u8],
-    report: &'a [u8],
+    want: Outcome<'a>,
 }
 
 /// A run, a replay, a map, and a refusal of each kind.
@@ -18,51 +16,49 @@ fn answers<'a>(hi: &'a [u8], flags: &'a [u8]) -> [Answer<'a>; 7] {
         Answer {
             words: &RUN,
             image: hi,
-            status: 0,
-            out: HI_OUTPUT,
-            report: HI_REPORT,
+            want: Outcome {
+                status: 0,
+                out: HI_OUTPUT,
+                report: HI_REPORT,
+            },
         },
         Answer {
             words: &REPLAY,
             image: hi,
-            status: 0,
-            out: SAME,
-            report: b"",
+            want: Outcome {
+                status: 0,
+                out: SAME,
+                report: b"",
+            },
         },
         Answer {
             words: &["inspect", "--image", "guest.elf"],
             image: hi,
-            status: 0,
-            out: HI_MAP,
-            report: b"",
+            want: Outcome {
+                status: 0,
+                out: HI_MAP,
+                report: b"",
+            },
         },
         Answer {
             words: &["run"],
             image: hi,
-            status: 64,
-            out: b"",
-            report: b"refused 64 words\n",
+            want: refused(64, b"refused 64 words\n"),
         },
         Answer {
             words: &RUN,
             image: b"",
-            status: 65,
-            out: b"",
-            report: b"refused 65 image 1 Short\n",
+            want: refused(65, b"refused 65 image 1 Short\n"),
         },
         Answer {
             words: &RUN,
             image: flags,
-            status: 65,
-            out: b"",
-            report: b"refused 65 image 8 Flags\n",
+            want: refused(65, b"refused 65 image 8 Flags\n"),
         },
         Answer {
             words: &["run", "--image", "none"],
             image: hi,
-            status: 74,
-            out: b"",
-            report: b"refused 74 read image\n",
+            want: refused(74, b"refused 74 read image\n"),
         },
     ]
 }
@@ -95,14 +91,14 @@ fn want_of_memory_is_the_only_other_answer(rt: HostRuntime) -> Result<(), Fail> 
         let Ok((status, around)) = answered(&rt, alloc, &answer) else {
             return Ok(());
         };
-        let (own, out, report) = if status == 71 {
-            (71, b"".as_slice(), b"refused 71 memory\n".as_slice())
+        let want = if status == 71 {
+            refused(71, b"refused 71 memory\n")
         } else {
-            (answer.status, answer.out, answer.report)
+            answer.want
         };
-        assert_eq!(rt; status, own);
-        assert_eq!(rt; around.out.bytes(), out);
-        assert_eq!(rt; around.report.bytes(), report);
+        assert!(rt; status == want.status);
+        assert!(rt; around.out.bytes() == want.out);
+        assert!(rt; around.report.bytes() == want.report);
     }
     Ok(())
 }

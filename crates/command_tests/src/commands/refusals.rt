@@ -56,14 +56,7 @@ fn other_files_are_refused(rt: HostRuntime) -> Result<(), Fail> {
         let mut around = Surroundings::ample(alloc, bytes)?;
         around.add(alloc, "policy.toml", policy)?;
         around.add(alloc, "input", input)?;
-        let length = bytes.len();
-        assert_eq!(rt;
-            around.command(&rt, alloc, &words)?,
-            status,
-            "{length} bytes"
-        );
-        assert_eq!(rt; around.out.calls(), 0, "{length} bytes");
-        assert_eq!(rt; around.report.bytes(), line, "{length} bytes");
+        around.try_command(&rt, alloc, &words, &refused(status, line))?;
     }
     Ok(())
 }
@@ -106,10 +99,8 @@ fn other_words_are_refused(rt: HostRuntime) -> Result<(), Fail> {
         let mut around = Surroundings::ample(alloc, &bytes)?;
         around.add(alloc, "-guest.elf", &bytes)?;
         around.add(alloc, "", &bytes)?;
-        assert_eq!(rt; around.command(&rt, alloc, words)?, 64, "{words:?}");
-        assert_eq!(rt; around.report.bytes(), b"refused 64 words\n".as_slice());
-        assert_eq!(rt; around.out.calls(), 0, "{words:?}");
-        assert_eq!(rt; around.files.calls(), 0, "{words:?}");
+        around.try_command(&rt, alloc, words, &refused(64, b"refused 64 words\n"))?;
+        assert!(rt; around.files.calls() == 0);
     }
     Ok(())
 }

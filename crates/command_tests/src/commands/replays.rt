@@ -25,11 +25,11 @@ fn try_report<X: Abort + Threads + Wait + Sync>(
     let image = image_of(alloc, &HI)?;
     let mut around = Surroundings::ample(alloc, &image)?;
     around.add(alloc, "report.txt", report)?;
-    assert_eq!(rt; around.command(rt, alloc, &REPLAY)?, status, "{line:?}");
-    let out = if status == 0 { SAME } else { b"" };
-    assert_eq!(rt; around.out.bytes(), out, "{line:?}");
-    assert_eq!(rt; around.report.bytes(), line);
-    Ok(())
+    let want = Outcome {
+        out: if status == 0 { SAME } else { b"" },
+        ..refused(status, line)
+    };
+    around.try_command(rt, alloc, &REPLAY, &want)
 }
 
 #[test]
@@ -155,9 +155,7 @@ fn files_of_a_replay_are_refused_in_their_order(rt: HostRuntime) -> Result<(), F
         let mut around = Surroundings::ample(alloc, image)?;
         around.add(alloc, "report.txt", report)?;
         around.add(alloc, "policy.toml", policy)?;
-        assert_eq!(rt; around.command(&rt, alloc, &words)?, status);
-        assert_eq!(rt; around.out.calls(), 0);
-        assert_eq!(rt; around.report.bytes(), line);
+        around.try_command(&rt, alloc, &words, &refused(status, line))?;
     }
     Ok(())
 }
@@ -176,9 +174,9 @@ fn offline_does_all_but_run(rt: HostRuntime) -> Result<(), Fail> {
         let mut around = Surroundings::ample(alloc, &hi)?;
         around.add(alloc, "report.txt", HI_REPORT)?;
         let words = strings(alloc, words)?;
-        assert_eq!(rt; around.status_offline(alloc, &words), status);
-        assert_eq!(rt; around.out.bytes(), out);
-        assert_eq!(rt; around.report.bytes(), report);
+        assert!(rt; around.status_offline(alloc, &words) == status);
+        assert!(rt; around.out.bytes() == out);
+        assert!(rt; around.report.bytes() == report);
     }
     Ok(())
 }

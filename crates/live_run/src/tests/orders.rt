@@ -139,16 +139,15 @@ fn each_order_is_that_of_a_run(rt: HostRuntime) -> Result<(), Fail> {
     let mut seen = [false; 6];
     for seed in 0..100 {
         let (class, fault) = class_by_lot(&rt, alloc, &reserving, seed)?;
-        assert_eq!(rt;
-            fault,
-            None,
+        assert!(rt;
+            fault == None,
             "load-reserved and store-conditional from {seed}"
         );
         seen[usize::from(class)] = true;
         let (_, fault) = class_by_lot(&rt, alloc, &buffering, seed)?;
-        assert_eq!(rt; fault, None, "store buffering from {seed}");
+        assert!(rt; fault == None, "store buffering from {seed}");
     }
     // A store between the two of core 0 makes its second fail, and then it exits with 1.
-    assert_eq!(rt; seen, [true, true, false, false, false, false]);
+    assert!(rt; seen == [true, true, false, false, false, false]);
     Ok(())
 }

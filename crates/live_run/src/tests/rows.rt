@@ -72,7 +72,7 @@ fn one_thread_gives_all_actors_their_turns(rt: HostRuntime) -> Result<(), Fail> 
     let parts = drive(&rt, parts, &OpenGate);
     assert!(rt; parts.ended());
     let fault = fault_of(rt.alloc(), &setup, assemble(parts), &row)?;
-    assert_eq!(rt; fault, None);
+    assert!(rt; fault == None);
     Ok(())
 }
 
@@ -125,10 +125,10 @@ fn the_shortest_ring_and_turn_count_to_two_thousand(rt: HostRuntime) -> Result<(
     let setup = setup_of(alloc, &row)?;
     let parts = driven(&rt, alloc, &setup, 1, 1)?;
     let fault = fault_of(alloc, &setup, assemble(parts), &row)?;
-    assert_eq!(rt; fault, None);
+    assert!(rt; fault == None);
     let parts = driven(&rt, alloc, &setup, 1, 1)?;
     // The word at 0x11000, behind the three words of devices.
-    assert_eq!(rt; closed_word(parts, 1_027)?, (2_000, 2_000));
+    assert!(rt; closed_word(parts, 1_027)? == (2_000, 2_000));
     Ok(())
 }
 
@@ -154,7 +154,7 @@ fn the_order_of_a_run_is_the_canonical_merge(rt: HostRuntime) -> Result<(), Fail
     };
     let setup = setup_of(alloc, &row)?;
     let mut finished = assemble(driven(&rt, alloc, &setup, 1, 1)?);
-    assert_eq!(rt; finished.output().as_slice(), row.output);
+    assert!(rt; finished.output().as_slice() == row.output);
     // The cores had their units in turn. No access of core 0 comes after one of core 1.
     assert!(rt; is_one_core_after_the_other(&mut finished, 13));
     Ok(())
@@ -183,7 +183,7 @@ fn threads_come_to_what_one_thread_does(rt: HostRuntime) -> Result<(), Fail> {
         for bound in [1, 4, 64] {
             for quantum in [1, 3, 64] {
                 let fault = fault_in_threads(&rt, alloc, &row, bound, quantum)?;
-                assert_eq!(rt; fault, None, "{name}, bound {bound}, quantum {quantum}");
+                assert!(rt; fault == None, "{name}, bound {bound}, quantum {quantum}");
             }
         }
     }

@@ -50,7 +50,7 @@ fn a_reader_is_read_to_its_end(rt: HostRuntime) -> Result<(), Fail> {
         };
         let result = read_to_end(rt.alloc(), &mut reader, most);
         let got = result.map(|bytes| bytes.len());
-        assert_eq!(rt; got, want, "{left} of at most {most} failing {failing}");
+        assert!(rt; got == want, "{left} of at most {most} failing {failing}");
     }
     Ok(())
 }
@@ -62,16 +62,13 @@ fn files_of_the_host(rt: HostRuntime) -> Result<(), Fail> {
     let mut files = HostFiles::new(&rt);
     let whole = files.read_all(rt.alloc(), name, 4);
     let long = files.read_all(rt.alloc(), name, 3);
-    assert_eq!(rt; files.faults(), 0);
+    assert!(rt; files.faults() == 0);
     fs::remove_file(&rt, name)?;
     let missing = files.read_all(rt.alloc(), name, 4);
-    assert_eq!(rt; files.faults(), 1);
-    assert_eq!(rt;
-        whole.map(|bytes| bytes.as_slice() == b"held".as_slice()),
-        Ok(true)
-    );
-    assert_eq!(rt; long.map(|bytes| bytes.len()), Err(FileFault::TooLong));
-    assert_eq!(rt; missing.map(|bytes| bytes.len()), Err(FileFault::Failed));
+    assert!(rt; files.faults() == 1);
+    assert!(rt; whole.map(|bytes| bytes.as_slice() == b"held".as_slice()) == Ok(true));
+    assert!(rt; long.map(|bytes| bytes.len()) == Err(FileFault::TooLong));
+    assert!(rt; missing.map(|bytes| bytes.len()) == Err(FileFault::Failed));
     Ok(())
 }
 
@@ -113,16 +110,16 @@ fn sinks_of_the_host(rt: HostRuntime) -> Result<(), Fail> {
             flushes: 0,
             failing,
         });
-        assert_eq!(rt; sink.write(b""), Ok(0));
-        assert_eq!(rt; sink.write(b"text"), want, "at most {most}");
-        assert_eq!(rt; sink.faults(), faults, "at most {most}");
+        assert!(rt; sink.write(b"") == Ok(0));
+        assert!(rt; sink.write(b"text") == want, "at most {most}");
+        assert!(rt; sink.faults() == faults, "at most {most}");
     }
     let mut sink = HostSink::new(Narrow {
         most: 1,
         flushes: 0,
         failing: 2,
     });
-    assert_eq!(rt; write_whole(&mut sink, b"text"), Err(SinkFault::Failed));
-    assert_eq!(rt; sink.faults(), 1);
+    assert!(rt; write_whole(&mut sink, b"text") == Err(SinkFault::Failed));
+    assert!(rt; sink.faults() == 1);
     Ok(())
 }
