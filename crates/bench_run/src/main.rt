@@ -8,6 +8,7 @@ mod measure;
 
 use crate::measure::{Measure, Shape, read_words};
 use anyhow::{Result, anyhow};
+use guest_images::loaded;
 use inline_tracker::{Finished, Setup, Tracker, status_of};
 use live_run::{LiveParts, RunShape, assemble, run};
 use outside::OpenGate;
@@ -18,7 +19,6 @@ use std::sync::Wait;
 use std::thread::Threads;
 use syscall_drain::Guest;
 use tag_policy::Policy;
-use test_guests::loaded;
 
 /// The first access number that is spent: no run comes near it.
 const LIMIT: u32 = 4_294_967_280;

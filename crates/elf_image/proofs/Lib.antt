@@ -6,7 +6,6 @@ pub mod LoadLemmas
 pub mod MemoryLemmas
 pub mod NextLemmas
 pub mod PlaceLemmas
-mod Rows
 pub mod SegmentLemmas
 pub mod StackPages
 pub mod TableLemmas

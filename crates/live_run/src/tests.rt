@@ -6,7 +6,7 @@ mod orders;
 mod rows;
 
 use super::*;
-use guest_images::{COUNT, HI, JUMP, LRSC, PASS, STORE_BUFFERING, small_image};
+use guest_images::{COUNT, HI, JUMP, LRSC, PASS, STORE_BUFFERING, loaded, small_image};
 use inline_tracker::{CoreOutcome, Finished, Setup, Stepped, Tracker, status_of};
 use outside::OpenGate;
 use record_lane::Trap;
@@ -15,7 +15,6 @@ use std::alloc::Global;
 use std::test::Fail;
 use syscall_drain::Guest;
 use tag_policy::{Policy, read_policy};
-use test_guests::loaded;
 
 /// A program and what it is run on, and what comes of it in whichever order.
 #[derive(Clone, Copy)]

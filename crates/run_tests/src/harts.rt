@@ -4,14 +4,13 @@ ghost use Rattle.std.specs.Prelude.{IfOk};
 ghost use Rattle.record_lane.specs.Rings.{IsTakerOf};
 ghost use Rattle.hart_actor.specs.Objects.{AreOf};
 
-use guest_images::COUNT;
+use guest_images::{COUNT, guest_of};
 use hart_actor::{HartActor, HartTurn};
 use record_lane::{Got, Lane, Record, Reply, Ring, RingTaker};
 use std::alloc::Global;
 use std::sync::Wait;
 use std::test::Fail;
 use syscall_drain::Guest;
-use test_guests::guest_of;
 use word_stores::SharedMemory;
 
 const BUDGET: u32 = 1_048_576;

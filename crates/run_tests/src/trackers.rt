@@ -1,6 +1,6 @@
 //! The tracker, unit by unit.
 
-use guest_images::{HI, LRSC};
+use guest_images::{HI, LRSC, guest_of};
 use inline_tracker::{Finished, Setup, StepFault, Stepped, Tracker, status_of};
 use record_lane::Trap;
 use std::alloc::Global;
@@ -8,7 +8,6 @@ use std::process::Abort;
 use std::test::Fail;
 use syscall_drain::End;
 use tag_policy::Policy;
-use test_guests::guest_of;
 
 /// One core that runs the program that prints `hi`.
 fn printing(alloc: Global) -> Result<Setup, Fail> {

@@ -3,12 +3,11 @@
 ghost use Rattle.std.specs.Prelude.{◌≡◌, IfSome};
 ghost use Rattle.syscall_drain.specs.Units.{FitsAsk, taken_of};
 
-use guest_images::HI;
+use guest_images::{HI, guest_of};
 use record_lane::{MeetKind, Record, Reply};
 use rv_execute::{Op, Taken};
 use std::test::Fail;
 use syscall_drain::{Answer, CoreAsk, CoreState, End, Guest};
-use test_guests::guest_of;
 
 /// An answer to an ask: an access is the first to its word and finds this word.
 fn answer_to(ask: CoreAsk, word: u32) -> Option<Answer>

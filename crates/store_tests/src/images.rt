@@ -1,9 +1,8 @@
 //! The worked images: what is read off them, and the fault of each kind of damage.
 use elf_image::ImageFault;
-use guest_images::{HI, echo_image, small_image};
+use guest_images::{HI, echo_image, loaded, small_image};
 use std::alloc::{AllocError, Global};
 use std::test::Fail;
-use test_guests::loaded;
 
 /// The image of the program that prints `hi`.
 fn hi_image(alloc: Global) -> Result<Vec<u8>, AllocError> {

@@ -1,9 +1,8 @@
 use elf_image::{Image, ImageFault};
-use guest_images::{HI, small_image};
+use guest_images::{HI, loaded, small_image};
 use rv_execute::Op;
 use std::alloc::Global;
 use std::test::Fail;
-use test_guests::loaded;
 use ticket_table::{number, payload};
 use word_stores::{Served, SharedMemory, TagMemory};
 

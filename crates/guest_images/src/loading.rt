@@ -1,14 +1,13 @@
-//! Loaded guests for tests and for programs that are measured.
+//! Loaded guests.
 //!
 //! The contracts say little on purpose. That of `load` at numbers that are written out, as a test has them, takes a proof a minute
 //! at each place; at the parameters of a function it takes a second.
-#![tactic(auto)]
 
 ghost use Rattle.std.specs.Prelude.{◌≡◌, ◌≤◌, IfOk};
 ghost use Rattle.elf_image.specs.declared.limits.TheConstants.{MOST_CORES, MOST_STACK, MOST_HEAP};
 
+use crate::files::small_image;
 use elf_image::{Image, ImageFault, load};
-use guest_images::small_image;
 use std::alloc::Global;
 use syscall_drain::Guest;
 
