@@ -1,5 +1,0 @@
-use Rattle.std.proofs.Common.{◌≤◌}
-use Rattle.bench_ring.proofs.queue.take_all.Given as goal
-
-abbrev pub invariant-takes : goal.invariant-takes
-invariant-takes g l = l.next ≤ l.count

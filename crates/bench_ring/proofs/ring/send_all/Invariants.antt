@@ -1,6 +1,0 @@
-use Rattle.std.proofs.Common.{◌≡◌, ◌≤◌, length}
-use Rattle.record_lane.specs.Rings.{sent_by, IsSenderOf}
-use Rattle.bench_ring.proofs.ring.send_all.Given as goal
-
-abbrev pub invariant-sends : goal.invariant-sends
-invariant-sends g l = IsSenderOf l.ring l.sender × (length (sent_by l.sender) ≡ l.next) × (l.next ≤ l.count)

@@ -1,6 +1,0 @@
-use Rattle.std.proofs.Common.{◌≤◌}
-use Rattle.record_lane.specs.Rings.{IsTakerOf}
-use Rattle.bench_ring.proofs.ring.take_all.Given as goal
-
-abbrev pub invariant-takes : goal.invariant-takes
-invariant-takes g l = IsTakerOf l.ring l.taker × (l.next ≤ l.count)
