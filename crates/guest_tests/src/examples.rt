@@ -1,5 +1,7 @@
 //! Guests of `examples/`, word by word, and what they do there.
-use super::*;
+use crate::policies::SINK;
+use command_cases::{Case, FINE, plain, try_cases, words_file};
+use std::test::Fail;
 
 /// `locked_sum.elf`: the sum of 1 to 1000, shared by the cores under a lock.
 const LOCKED_SUM: [u32; 281] = [
@@ -183,9 +185,6 @@ const LEAK: [u32; 263] = [
     0x00000000, 0x000002d8, 0x0000002c, 0x00000000, 0x00000000, 0x00000001, 0x00000000,
 ];
 
-/// The text of `examples/policies/sink.toml`.
-const SINK: &[u8] = b"version = 1\n[[policy]]\nsource = true\ncheck_sink = true\n";
-
 /// The same with tags of bytes, as in `sink_bytes.toml`.
 const SINK_BYTES: &[u8] = b"version = 2\n[[policy]]\nsource = true\ncheck_sink = true\n";
 
@@ -193,108 +192,107 @@ const SINK_BYTES: &[u8] = b"version = 2\n[[policy]]\nsource = true\ncheck_sink =
 const SORTED: &[u8] =
     b"-2147483647\n-100\n-7\n-1\n0\n3\n3\n7\n10\n42\n99\n256\n1000\n65536\n12345678\n2147483647\n";
 
-#[test]
-fn guests_without_input_write_what_is_known(rt: HostRuntime) -> Result<(), Fail> {
-    let alloc = rt.alloc();
-    let locked_sum = words_file(alloc, &LOCKED_SUM)?;
-    let sort = words_file(alloc, &SORT)?;
-    let crc32 = words_file(alloc, &CRC32)?;
-    let cases = [
-        plain("sort", &sort, 0, SORTED, FINE),
-        plain("crc32", &crc32, 0, b"2382472371 44\n", FINE),
-        plain("sum on one core", &locked_sum, 0, b"500500\n", FINE),
+/// The images of two guests without input on one core, and of one on 1, 2 and 8 cores.
+fn without_input<'a>(sort: &'a [u8], crc32: &'a [u8], sum: &'a [u8]) -> [Case<'a>; 5] {
+    let both = b"traps 0\nends 2\n0 exit 0\n1 exit 0\nend\n";
+    [
+        plain("sort", sort, 0, SORTED, FINE),
+        plain("crc32", crc32, 0, b"2382472371 44\n", FINE),
+        plain("sum on one core", sum, 0, b"500500\n", FINE),
         Case {
             options: &["--cores", "2"],
-            ..plain(
-                "sum on two cores",
-                &locked_sum,
-                0,
-                b"500500\n",
-                b"traps 0\nends 2\n0 exit 0\n1 exit 0\nend\n",
-            )
+            ..plain("sum on two cores", sum, 0, b"500500\n", both)
         },
         Case {
             options: &["--cores=8"],
             ..plain(
                 "sum on eight cores",
-                &locked_sum,
+                sum,
                 0,
                 b"500500\n",
                 b"7 exit 0\nend\n",
             )
         },
-    ];
-    for case in cases {
-        try_case(&rt, alloc, &case)?;
-    }
-    Ok(())
+    ]
 }
 
 #[test]
-fn input_that_steers_a_jump_or_the_output_is_stopped(rt: HostRuntime) -> Result<(), Fail> {
+fn guests_without_input_write_what_is_known(rt: HostRuntime) -> Result<(), Fail> {
     let alloc = rt.alloc();
-    let jump_target = words_file(alloc, &JUMP_TARGET)?;
-    let leak = words_file(alloc, &LEAK)?;
+    let sort = words_file(alloc, &SORT)?;
+    let crc32 = words_file(alloc, &CRC32)?;
+    let sum = words_file(alloc, &LOCKED_SUM)?;
+    try_cases(&rt, alloc, &without_input(&sort, &crc32, &sum))?;
+    Ok(())
+}
+
+/// How the report ends where a name is a jump target.
+const JUMPED: &[u8] = b"0 27 000100cc call 64 00000000000000000010000000000000 0 stop\n\
+    traps 1\n0 21 00010104 1 1\nends 1\n0 trapped\nend\n";
+
+/// A name that is welcomed, and one that is a jump target.
+fn names(jump_target: &[u8]) -> [Case<'_>; 2] {
     let input = &["--input", "input"];
-    let both = &["--policy", "policy.toml", "--input", "input"];
-    let cases = [
+    [
         Case {
             options: input,
             input: b"ada\n",
-            ..plain("a short name", &jump_target, 0, b"welcome, ada\n", FINE)
+            ..plain("a short name", jump_target, 0, b"welcome, ada\n", FINE)
         },
         Case {
             options: input,
             input: b"AAAAAAAAAAAAAAAA\xb8\x00\x01\x00",
-            ..plain(
-                "a name that is a jump target",
-                &jump_target,
-                2,
-                b"",
-                b"0 27 000100cc call 64 00000000000000000010000000000000 0 stop\n\
-                traps 1\n0 21 00010104 1 1\nends 1\n0 trapped\nend\n",
-            )
+            ..plain("a name that is a jump target", jump_target, 2, b"", JUMPED)
         },
+    ]
+}
+
+#[test]
+fn input_that_steers_a_jump_is_stopped(rt: HostRuntime) -> Result<(), Fail> {
+    let alloc = rt.alloc();
+    let jump_target = words_file(alloc, &JUMP_TARGET)?;
+    try_cases(&rt, alloc, &names(&jump_target))?;
+    Ok(())
+}
+
+/// How the report ends where the input comes out again.
+const LEAKED: &[u8] = b"0 121 00010164 sink 64 00000000000000000100000000000000 1 stop\n\
+    traps 1\n0 121 00010164 7 1\nends 1\n0 trapped\nend\n";
+
+/// How it ends where a byte beside the input does.
+const BESIDE: &[u8] = b"traps 1\n0 23 000100e4 7 1\nends 1\n0 trapped\nend\n";
+
+/// Input that comes out again, and bytes beside it, with tags of words and of bytes.
+fn leaks(leak: &[u8]) -> [Case<'_>; 3] {
+    let words = "bytes beside the input, with tags of words";
+    let bytes = "bytes beside the input, with tags of bytes";
+    let options = &["--policy", "policy.toml", "--input", "input"];
+    [
         Case {
-            options: both,
+            options,
             input: b"gada\n",
             policy: SINK,
-            ..plain(
-                "input that comes out again",
-                &leak,
-                2,
-                b"",
-                b"0 121 00010164 sink 64 00000000000000000100000000000000 1 stop\n\
-                traps 1\n0 121 00010164 7 1\nends 1\n0 trapped\nend\n",
-            )
+            ..plain("input that comes out again", leak, 2, b"", LEAKED)
         },
         Case {
-            options: both,
+            options,
             input: b"s\n",
             policy: SINK,
-            ..plain(
-                "bytes beside the input, with tags of words",
-                &leak,
-                2,
-                b"",
-                b"traps 1\n0 23 000100e4 7 1\nends 1\n0 trapped\nend\n",
-            )
+            ..plain(words, leak, 2, b"", BESIDE)
         },
         Case {
-            options: both,
+            options,
             input: b"s\n",
             policy: SINK_BYTES,
-            ..plain(
-                "bytes beside the input, with tags of bytes",
-                &leak,
-                0,
-                b"ok\n",
-                FINE,
-            )
+            ..plain(bytes, leak, 0, b"ok\n", FINE)
         },
-    ];
-    for case in cases {
-        try_case(&rt, alloc, &case)?;
-    }
+    ]
+}
+
+#[test]
+fn input_that_goes_out_is_stopped(rt: HostRuntime) -> Result<(), Fail> {
+    let alloc = rt.alloc();
+    let leak = words_file(alloc, &LEAK)?;
+    try_cases(&rt, alloc, &leaks(&leak))?;
     Ok(())
 }

@@ -1,7 +1,10 @@
 //! Guests whose cores race, and what their reports tell in every order.
-use super::*;
+use command_cases::{Case, echo, image_of, plain, try_case_at};
 use guest_images::{COUNT, STORE_BUFFERING};
+use outside::OpenGate;
+use std::alloc::{AllocError, Global};
 use std::str::from_utf8;
+use std::test::Fail;
 
 /// What a report tells of its units, its calls and its ends: its lines from each of these counts on.
 #[derive(Clone, Copy)]

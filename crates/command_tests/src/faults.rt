@@ -1,6 +1,14 @@
 //! Calls of the files and of the sinks that fail, each in turn, and sinks with little room.
-use super::*;
-use guest_images::COUNT;
+use command_cases::{
+    Answer, Difference, HI_MAP, HI_OUTPUT, HI_REPORT, INSPECT, Outcome, RUN, SAME, Surroundings,
+    echo, image_of, refused,
+};
+use guest_images::{COUNT, HI};
+use outside::{MemFiles, MemSink};
+use std::alloc::{AllocError, Global};
+use std::sync::Wait;
+use std::test::Fail;
+use std::thread::Threads;
 
 /// A command on `hi` that is not refused: its words, the line where each of its readings fails, in their order, and what it
 /// writes.
@@ -90,11 +98,11 @@ fn fills(written: &[u8], room: usize, whole: &[u8]) -> bool {
 const NEVER: u64 = 1000;
 
 /// A command each of whose readings fails in turn. Answers how many there are.
-fn try_readings<X: Abort + Threads + Wait + Sync>(
+fn try_readings<X: Threads + Wait + Sync>(
     rt: &X,
     alloc: Global,
     done: &Done<'_>,
-) -> Result<u64, Fail> {
+) -> Result<u64, Difference> {
     let mut readings = 0;
     for line in done.lines {
         let mut around = around(alloc, readings, 8192, 8192)?;
@@ -212,53 +220,38 @@ fn rooms_at_the_border_of_each_piece_cut_a_long_report(rt: HostRuntime) -> Resul
     Ok(())
 }
 
-/// The words and the image of a command that is refused, its status, and the line that it writes.
-#[derive(Clone, Copy)]
-struct Refusal<'a> {
-    words: &'a [&'a str],
-    image: &'a [u8],
-    status: u8,
-    line: &'a [u8],
-}
-
 /// A refusal of each kind, where this image has other flags.
-fn refusals(flags: &[u8]) -> [Refusal<'_>; 6] {
+fn refusals(flags: &[u8]) -> [Answer<'_>; 6] {
     [
-        Refusal {
+        Answer {
             words: &["run"],
             image: b"",
-            status: 64,
-            line: b"refused 64 words\n",
+            want: refused(64, b"refused 64 words\n"),
         },
-        Refusal {
+        Answer {
             words: &RUN,
             image: b"",
-            status: 65,
-            line: b"refused 65 image 1 Short\n",
+            want: refused(65, b"refused 65 image 1 Short\n"),
         },
-        Refusal {
+        Answer {
             words: &RUN,
             image: flags,
-            status: 65,
-            line: b"refused 65 image 8 Flags\n",
+            want: refused(65, b"refused 65 image 8 Flags\n"),
         },
-        Refusal {
+        Answer {
             words: &["run", "--image", "none"],
             image: b"",
-            status: 74,
-            line: b"refused 74 read image\n",
+            want: refused(74, b"refused 74 read image\n"),
         },
-        Refusal {
+        Answer {
             words: &["replay", "--image=guest.elf", "--report=guest.elf"],
             image: b"",
-            status: 68,
-            line: b"refused 68 report 1 4 Truncated\n",
+            want: refused(68, b"refused 68 report 1 4 Truncated\n"),
         },
-        Refusal {
-            words: &["inspect", "--image=guest.elf"],
+        Answer {
+            words: &INSPECT,
             image: b"",
-            status: 65,
-            line: b"refused 65 image 1 Short\n",
+            want: refused(65, b"refused 65 image 1 Short\n"),
         },
     ]
 }
@@ -267,24 +260,20 @@ fn refusals(flags: &[u8]) -> [Refusal<'_>; 6] {
 fn a_refusal_keeps_its_status_where_its_line_fails(rt: HostRuntime) -> Result<(), Fail> {
     let alloc = rt.alloc();
     let flags = echo(alloc, 1)?;
-    for Refusal {
-        words,
-        image,
-        status,
-        line,
-    } in refusals(&flags) {
+    for Answer { words, image, want } in refusals(&flags) {
+        let Outcome { status, report, .. } = want;
         let mut covered = 0;
         for call in 0..1000 {
             let mut around = Surroundings::ample(alloc, image)?;
-            around.report = MemSink::new(alloc, line.len(), &[call])?;
+            around.report = MemSink::new(alloc, report.len(), &[call])?;
             assert!(rt; around.command(&rt, alloc, words)? == status);
             assert!(rt; around.out.calls() == 0);
             if around.report.calls() <= call {
-                assert!(rt; around.report.bytes() == line);
+                assert!(rt; around.report.bytes() == report);
                 covered = call;
                 break;
             }
-            assert!(rt; is_cut(around.report.bytes(), line));
+            assert!(rt; is_cut(around.report.bytes(), report));
         }
         assert!(rt; covered >= 1);
     }
@@ -295,18 +284,14 @@ fn a_refusal_keeps_its_status_where_its_line_fails(rt: HostRuntime) -> Result<()
 fn a_refusal_keeps_its_status_in_little_room(rt: HostRuntime) -> Result<(), Fail> {
     let alloc = rt.alloc();
     let flags = echo(alloc, 1)?;
-    for Refusal {
-        words,
-        image,
-        status,
-        line,
-    } in refusals(&flags) {
-        for room in 0..line.len() {
+    for Answer { words, image, want } in refusals(&flags) {
+        let Outcome { status, report, .. } = want;
+        for room in 0..report.len() {
             let mut around = Surroundings::ample(alloc, image)?;
             around.report = MemSink::new(alloc, room, &[])?;
             assert!(rt; around.command(&rt, alloc, words)? == status);
             assert!(rt; around.out.calls() == 0);
-            assert!(rt; fills(around.report.bytes(), room, line));
+            assert!(rt; fills(around.report.bytes(), room, report));
         }
     }
     Ok(())

@@ -1,44 +1,32 @@
 //! Want of memory: with each allocation failing in turn (`rt try --test --fail-alloc N`), a command answers as it does with
 //! ample memory, or is refused for want of it.
-use super::*;
+use command_cases::{
+    Answer, HI_MAP, HI_OUTPUT, HI_REPORT, INSPECT, REPLAY, RUN, SAME, Surroundings, answered, echo,
+    image_of, refused,
+};
+use guest_images::HI;
+use std::alloc::{AllocError, Global};
+use std::sync::Wait;
+use std::test::Fail;
+use std::thread::Threads;
 
-/// A command, and what it answers with ample memory.
-#[derive(Clone, Copy)]
-struct Answer<'a> {
-    words: &'a [&'a str],
-    image: &'a [u8],
-    want: Outcome<'a>,
-}
-
-/// A run, a replay, a map, and a refusal of each kind.
+/// A run, a replay, a map, and a refusal of each kind, with what they answer where there is ample memory.
 fn answers<'a>(hi: &'a [u8], flags: &'a [u8]) -> [Answer<'a>; 7] {
     [
         Answer {
             words: &RUN,
             image: hi,
-            want: Outcome {
-                status: 0,
-                out: HI_OUTPUT,
-                report: HI_REPORT,
-            },
+            want: answered(HI_OUTPUT, HI_REPORT),
         },
         Answer {
             words: &REPLAY,
             image: hi,
-            want: Outcome {
-                status: 0,
-                out: SAME,
-                report: b"",
-            },
+            want: answered(SAME, b""),
         },
         Answer {
-            words: &["inspect", "--image", "guest.elf"],
+            words: &INSPECT,
             image: hi,
-            want: Outcome {
-                status: 0,
-                out: HI_MAP,
-                report: b"",
-            },
+            want: answered(HI_MAP, b""),
         },
         Answer {
             words: &["run"],
@@ -69,7 +57,7 @@ fn images(alloc: Global) -> Result<(Vec<u8>, Vec<u8>), AllocError> {
 }
 
 /// The status of a command, and what it left.
-fn answered<X: Threads + Wait + Sync>(
+fn left_by<X: Threads + Wait + Sync>(
     rt: &X,
     alloc: Global,
     answer: &Answer<'_>,
@@ -88,7 +76,7 @@ fn want_of_memory_is_the_only_other_answer(rt: HostRuntime) -> Result<(), Fail> 
         return Ok(());
     };
     for answer in answers(&hi, &flags) {
-        let Ok((status, around)) = answered(&rt, alloc, &answer) else {
+        let Ok((status, around)) = left_by(&rt, alloc, &answer) else {
             return Ok(());
         };
         let want = if status == 71 {

@@ -1,9 +1,13 @@
 //! Runs whose gate holds an actor up: what others do meanwhile, and that nothing of a run depends on it.
 use super::races::a_store_was_found;
-use super::*;
+use command_cases::{Case, Difference, image_of, left_by, plain, try_case_at, try_replay};
 use guest_images::{COUNT, LRSC, STORE_BUFFERING};
-use outside::Who;
+use outside::{Gate, Who};
+use std::alloc::Global;
+use std::sync::Wait;
 use std::sync::atomic::{AtomicBool, Ordering};
+use std::test::Fail;
+use std::thread::Threads;
 
 /// How often a gate looks for other actors before it lets go in any case.
 const MOST_LOOKS: u32 = 200_000_000;
@@ -122,12 +126,12 @@ impl Gate for HoldGate {
     }
 }
 
-/// Two cores that add 1 to a word a thousand times each, with short rings and a gate that lets both cores meet.
-fn try_meeting<X: Abort + Threads + Wait + Sync>(
+/// Two cores that add 1 to a word a thousand times each, with short rings and a gate that lets both cores meet: whether they met.
+fn meets<X: Threads + Wait + Sync>(
     rt: &X,
     alloc: Global,
     gate: &MeetingGate,
-) -> Result<(), Fail> {
+) -> Result<bool, Difference> {
     let count = image_of(alloc, &COUNT)?;
     let case = Case {
         options: &["--cores", "2", "--lane", "4", "--quantum", "1"],
@@ -135,8 +139,7 @@ fn try_meeting<X: Abort + Threads + Wait + Sync>(
         ..plain("count", &count, 0, b"", b"0 exit 0\n1 exit 0\nend\n")
     };
     try_case_at(rt, alloc, &case, gate)?;
-    assert!(rt; gate.has_met());
-    Ok(())
+    Ok(gate.has_met())
 }
 
 #[test]
@@ -145,7 +148,8 @@ fn cores_go_on_while_a_tag_actor_is_held(rt: HostRuntime) -> Result<(), Fail> {
     let first = Sight::new(0, 5, 5);
     let second = Sight::new(1, 9, u32::MAX);
     let gate = MeetingGate::new(Who::Tag(0), first, second);
-    try_meeting(&rt, rt.alloc(), &gate)
+    assert!(rt; meets(&rt, rt.alloc(), &gate)?);
+    Ok(())
 }
 
 #[test]
@@ -154,7 +158,7 @@ fn a_core_goes_on_while_the_other_is_held(rt: HostRuntime) -> Result<(), Fail> {
         let first = Sight::new(other, 10, u32::MAX);
         let second = Sight::new(held, 0, 0);
         let gate = MeetingGate::new(Who::Hart(held), first, second);
-        try_meeting(&rt, rt.alloc(), &gate)?;
+        assert!(rt; meets(&rt, rt.alloc(), &gate)?);
     }
     Ok(())
 }
@@ -197,7 +201,7 @@ fn a_reservation_stands_or_falls_whichever_turn_is_held(rt: HostRuntime) -> Resu
             let gate = HoldGate::new(held, turn);
             let (status, around) = left_by(&rt, alloc, &case, &gate)?;
             assert!(rt; status <= 1);
-            try_replay(&rt, alloc, &case, around.report.bytes())?;
+            try_replay(alloc, &case, around.report.bytes())?;
         }
     }
     Ok(())
