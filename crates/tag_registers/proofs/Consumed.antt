@@ -1,15 +1,11 @@
 -- What a file of tags does with a record that is no touch is what the record does to its tags.
-use Rattle.std.proofs.Common.{◌≡◌, false, Option, Some, None, refl, sym, ap}
+use Rattle.std.proofs.Common.{◌≡◌, false, refl, sym, ap}
 use Rattle.record_lane.specs.declared.record.Record.{Record}
 use Rattle.record_lane.specs.declared.record.Record.TheVariants.{Quiet, Blank, Touch, Meet, Back, End}
-use Rattle.record_lane.specs.declared.reply.Trap.{Trap}
 use Rattle.tag_policy.specs.Rules.{PolicySeen}
-use Rattle.tag_registers.specs.Tags.{Tags, kept_trap, tags_after}
+use Rattle.tag_registers.specs.Tags.{Tags, tags_after}
 use Rattle.tag_registers.specs.Files.{is_touch, consumed}
-
-kept_none : (trap : Option Trap) → kept_trap trap None ≡ trap
-kept_none (Some trap) = refl
-kept_none None = refl
+use Rattle.tag_registers.proofs.Keeping.{kept_none}
 
 pub consumed_after : (policy : PolicySeen) (tags : Tags) (item : Record) → is_touch item ≡ false → consumed policy tags item ≡ tags_after policy tags item 0
 unfolding tags_after

@@ -4,3 +4,4 @@ pub mod Packing
 pub mod Consumed
 pub mod TagWords
 pub mod WordOperation
+pub mod Keeping

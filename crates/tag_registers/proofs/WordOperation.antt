@@ -4,11 +4,7 @@ use Rattle.rv_execute.specs.Payloads.{changed}
 use Rattle.tag_policy.specs.Rules.{PolicySeen, rules_at, store_bit}
 use Rattle.tag_policy.specs.Memory.{tags_below}
 use Rattle.tag_policy.proofs.Bits.{four_below}
-use Rattle.tag_registers.specs.declared.rows.Origin.{Origin}
-use Rattle.tag_registers.specs.declared.rows.Origin.TheVariants.{OfStore, OfSource}
-use Rattle.tag_registers.specs.declared.rows.WordRule.{WordRule}
-use Rattle.tag_registers.specs.declared.rows.WordRule.TheVariants.{KeepWord, Put}
-use Rattle.tag_registers.specs.Rows.{row_of, touched_bytes}
+use Rattle.tag_registers.specs.Rows.{Origin, OfStore, OfSource, WordRule, KeepWord, Put, row_of, touched_bytes}
 use Rattle.tag_registers.specs.Tags.{register_bit, origin_tag, word_after, word_operation, word_tag, word_op}
 use Rattle.tag_registers.specs.WordOperation.{OperationLeavesTheTag, TagsStayBelow}
 use Rattle.tag_registers.proofs.TagWords.{put_leaves, left_below}

@@ -2,5 +2,5 @@ pub mod Rows
 pub mod Tags
 pub mod Folds
 pub mod WordOperation
+pub mod Looked
 pub mod Files
-pub mod InRange

@@ -7,6 +7,7 @@ use Rattle.rv_decode.specs.declared.insn.RegKind.{RegKind}
 use Rattle.rv_decode.specs.declared.insn.RegKind.TheVariants.{Sub, Xor}
 use Rattle.rv_decode.specs.declared.insn.AmoKind.{AmoKind}
 use Rattle.rv_decode.specs.declared.insn.AmoKind.TheVariants.{Swap}
+use Rattle.rv_decode.specs.declared.insn.Class.{Class}
 use Rattle.rv_decode.specs.Classes.{class_of_imm, class_of_reg}
 use Rattle.record_lane.specs.declared.record.Why.{Why}
 use Rattle.record_lane.specs.declared.record.Why.TheVariants.{Insn as ByInsn, Fill, Gather, Claim, Spent}
@@ -18,13 +19,31 @@ use Rattle.tag_policy.specs.declared.rules.Change.{Change}
 use Rattle.tag_policy.specs.declared.rules.Change.TheVariants.{Replace, Join}
 use Rattle.tag_policy.specs.declared.rules.Check.{Check}
 use Rattle.tag_policy.specs.declared.rules.Check.TheVariants.{Jump, LoadAddress, StoreAddress, BranchCondition, CallNumber, CallArgument, Sink}
-use Rattle.tag_registers.specs.declared.rows.RegisterRule.{RegisterRule}
-use Rattle.tag_registers.specs.declared.rows.RegisterRule.TheVariants.{KeepTags, ClearTag, OfOperands, OfOperand, OfLoad}
-use Rattle.tag_registers.specs.declared.rows.Origin.TheVariants.{OfStore, OfSource}
-use Rattle.tag_registers.specs.declared.rows.WordRule.{WordRule}
-use Rattle.tag_registers.specs.declared.rows.WordRule.TheVariants.{KeepWord, Put}
-use Rattle.tag_registers.specs.declared.rows.BufferRule.{BufferRule}
-use Rattle.tag_registers.specs.declared.rows.BufferRule.TheVariants.{KeepBuffer, ClearBuffer, JoinFound}
+
+-- what becomes of the tags of the registers: they are kept, or that of the first register is cleared, or is set
+-- by the mode of the class, of two registers, or of one and an immediate, which has no tag, or as that of a load, of the register of its address
+pub data RegisterRule : Type 0 where
+  KeepTags : RegisterRule
+  ClearTag : ℕ → RegisterRule
+  OfOperands : ℕ → Class → ℕ → ℕ → RegisterRule
+  OfOperand : ℕ → Class → ℕ → RegisterRule
+  OfLoad : ℕ → ℕ → RegisterRule
+
+-- where the tag that a store brings comes from: the registers of the value and of the address, or input
+pub data Origin : Type 0 where
+  OfStore : ℕ → ℕ → Origin
+  OfSource : Origin
+
+-- what becomes of the tag of the word
+pub data WordRule : Type 0 where
+  KeepWord : WordRule
+  Put : Change → Origin → WordRule
+
+-- what becomes of the tag of the buffer
+pub data BufferRule : Type 0 where
+  KeepBuffer : BufferRule
+  ClearBuffer : BufferRule
+  JoinFound : BufferRule
 
 -- where a check looks
 pub data Place : Type 0 where

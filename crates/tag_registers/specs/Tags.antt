@@ -11,15 +11,8 @@ use Rattle.record_lane.specs.declared.reply.Trap.{Trap}
 use Rattle.record_lane.specs.declared.reply.Reply.{Reply}
 use Rattle.tag_policy.specs.Rules.{PolicySeen, rules_at, kind_of, result_bit, load_bit, store_bit, check_bit, source_tag}
 use Rattle.tag_policy.specs.Memory.{found_tag, joined, joins, tags_left, spread, spread_mask}
-use Rattle.tag_registers.specs.declared.rows.RegisterRule.{RegisterRule}
-use Rattle.tag_registers.specs.declared.rows.RegisterRule.TheVariants.{KeepTags, ClearTag, OfOperands, OfOperand, OfLoad}
-use Rattle.tag_registers.specs.declared.rows.Origin.{Origin}
-use Rattle.tag_registers.specs.declared.rows.Origin.TheVariants.{OfStore, OfSource}
-use Rattle.tag_registers.specs.declared.rows.WordRule.{WordRule}
-use Rattle.tag_registers.specs.declared.rows.WordRule.TheVariants.{KeepWord, Put}
-use Rattle.tag_registers.specs.declared.rows.BufferRule.{BufferRule}
-use Rattle.tag_registers.specs.declared.rows.BufferRule.TheVariants.{KeepBuffer, ClearBuffer, JoinFound}
-use Rattle.tag_registers.specs.Rows.{Place, Registers, Buffer, Look, Row, row_of, touched_bytes}
+use Rattle.tag_registers.specs.Rows.{RegisterRule, KeepTags, ClearTag, OfOperands, OfOperand, OfLoad, Origin, OfStore, OfSource, WordRule, KeepWord, Put}
+use Rattle.tag_registers.specs.Rows.{BufferRule, KeepBuffer, ClearBuffer, JoinFound, Place, Registers, Buffer, Look, Row, row_of, touched_bytes}
 
 -- the 32 register tags, the buffer tag and the first trap
 pub record Tags : Type 0 where

@@ -21,14 +21,14 @@ impl TagFile {
         ensures tags { tags_in self.new ≡ consumed (policy_in policy.now) (tags_in self.old) item.now }
         ensures stands { (givens : List Given) → is_touch item.now ≡ false → StandsAt (policy_in policy.now) (tags_in self.old) givens → StandsAt (policy_in policy.now) (tags_in self.new) (givens ++ record { item = item.now; found = 0 } ∷ []) }
     {
-        self.take_record(policy, *item)
+        self.take_record(policy, item)
     }
 
     #[tactic(auto, unfolding(crate::specs::Tags::tags_after, crate::specs::Tags::word_op))]
-    fn take_record(&mut self, policy: &Policy, item: Record) -> TagAsk
-        requires { IsSoundRecord 4294967295 4294967295 item }
-        ensures ask { result ≡ tag_ask (policy_in policy.now) (tags_in self.old) item }
-        ensures tags { tags_in self.new ≡ consumed (policy_in policy.now) (tags_in self.old) item }
+    fn take_record(&mut self, policy: &Policy, item: &Record) -> TagAsk
+        requires { IsSoundRecord 4294967295 4294967295 item.now }
+        ensures ask { result ≡ tag_ask (policy_in policy.now) (tags_in self.old) item.now }
+        ensures tags { tags_in self.new ≡ consumed (policy_in policy.now) (tags_in self.old) item.now }
     {
         match item {
             Record::Quiet {
@@ -37,7 +37,11 @@ impl TagFile {
                 insn,
                 faulted,
             } => {
-                self.quiet(policy, Unit { step, pc }, insn, faulted);
+                let unit = Unit {
+                    step: *step,
+                    pc: *pc,
+                };
+                self.quiet(policy, unit, insn, *faulted);
                 TagAsk::Done
             }
             Record::Blank { .. } => TagAsk::Done,
@@ -47,8 +51,8 @@ impl TagFile {
                 why,
                 ..
             } => TagAsk::Serve {
-                word,
-                number,
+                word: *word,
+                number: *number,
                 op: self.touch_operation(policy, why),
             },
             Record::Meet {
@@ -57,7 +61,11 @@ impl TagFile {
                 call,
                 kind,
             } => {
-                self.meet(policy, Unit { step, pc }, call, kind);
+                let unit = Unit {
+                    step: *step,
+                    pc: *pc,
+                };
+                self.meet(policy, unit, *call, *kind);
                 TagAsk::Answer(self.reply())
             }
             Record::Back { .. } => {
@@ -75,17 +83,21 @@ impl TagFile {
         ensures tags { tags_in self.new ≡ tags_after (policy_in policy.now) (tags_in self.old) item.now old }
         ensures stands { (givens : List Given) → StandsAt (policy_in policy.now) (tags_in self.old) givens → StandsAt (policy_in policy.now) (tags_in self.new) (givens ++ record { item = item.now; found = old } ∷ []) }
     {
-        self.finish_touch(policy, *item, old);
+        self.finish_touch(policy, item, old);
     }
 
     #[tactic(auto, unfolding(crate::specs::Tags::tags_after))]
-    fn finish_touch(&mut self, policy: &Policy, item: Record, old: u32)
-        requires sound { IsSoundRecord 4294967295 4294967295 item }
-        requires touch { is_touch item ≡ true }
-        ensures { tags_in self.new ≡ tags_after (policy_in policy.now) (tags_in self.old) item old }
+    fn finish_touch(&mut self, policy: &Policy, item: &Record, old: u32)
+        requires sound { IsSoundRecord 4294967295 4294967295 item.now }
+        requires touch { is_touch item.now ≡ true }
+        ensures { tags_in self.new ≡ tags_after (policy_in policy.now) (tags_in self.old) item.now old }
     {
         if let Record::Touch { step, pc, why, .. } = item {
-            self.touch(policy, Unit { step, pc }, why, old);
+            let unit = Unit {
+                step: *step,
+                pc: *pc,
+            };
+            self.touch(policy, unit, why, old);
         }
     }
 }

@@ -2,9 +2,7 @@
 
 ghost use Rattle.std.specs.Prelude.{◌<◌, All};
 
-use crate::rows::{BufferRule, RegisterRule};
 use record_lane::Trap;
-use tag_policy::Policy;
 
 /// The tags of one core's registers and of its call buffer, and its first trap.
 #[derive(Clone, Copy, Debug, PartialEq, Eq)]
@@ -17,12 +15,10 @@ pub struct TagFile {
 }
 
 impl TagFile {
-    ghost use Rattle.std.specs.Prelude.{◌≡◌, ◌<◌, slice_index};
+    ghost use Rattle.std.specs.Prelude.{◌≡◌, ◌<◌, Some, slice_index};
     ghost use Rattle.tag_policy.specs.Memory.{joined};
-    ghost use Rattle.tag_policy.specs.Policies.{policy_in};
-    ghost use Rattle.tag_registers.specs.Tags.{no_tags, tagged, registers_after, buffer_after, kept_trap, packed};
+    ghost use Rattle.tag_registers.specs.Tags.{no_tags, tagged, kept_trap};
     ghost use Rattle.tag_registers.specs.Files.{tags_in};
-    ghost use Rattle.tag_registers.specs.InRange.{IsRegisterRule};
 
     /// The tags of a core at its start: none, and no trap.
     pub fn create() -> TagFile
@@ -71,52 +67,33 @@ impl TagFile {
     }
 
     /// Keeps a trap where it is the first.
-    pub(crate) fn keep_trap(&mut self, trap: Option<Trap>)
-        ensures { tags_in self.new ≡ record (tags_in self.old) { trap = kept_trap (tags_in self.old).trap trap } }
+    pub(crate) fn keep_trap(&mut self, trap: Trap)
+        ensures { tags_in self.new ≡ record (tags_in self.old) { trap = kept_trap (tags_in self.old).trap (Some trap) } }
     {
         if self.trap.is_none() {
-            self.trap = trap;
+            self.trap = Some(trap);
         }
     }
 
-    /// Changes the tags of the registers by a rule, where this tag was found.
-    pub(crate) fn change_registers(&mut self, policy: &Policy, found: u8, rule: RegisterRule)
-        requires found { found < 16 }
-        requires rule { IsRegisterRule rule }
-        ensures { tags_in self.new ≡ record (tags_in self.old) { registers = registers_after (policy_in policy.now) (tags_in self.old).registers found rule } }
+    /// Takes the tags of this file again, and keeps the trap.
+    pub(crate) fn restore_tags(&mut self, before: TagFile)
+        ensures { tags_in self.new ≡ record (tags_in before) { trap = (tags_in self.old).trap } }
     {
-        match rule {
-            RegisterRule::KeepTags => {}
-            RegisterRule::ClearTag { rd } => self.set(rd, 0),
-            RegisterRule::OfOperands {
-                rd,
-                class,
-                rs1,
-                rs2,
-            } => {
-                self.set(rd, policy.result(class, self.tag(rs1), self.tag(rs2)));
-            }
-            RegisterRule::OfOperand { rd, class, rs1 } => {
-                self.set(rd, policy.result(class, self.tag(rs1), 0));
-            }
-            RegisterRule::OfLoad { rd, rs1 } => self.set(rd, policy.loaded(found, self.tag(rs1))),
-        }
+        let trap = self.trap;
+        *self = before;
+        self.trap = trap;
     }
 
-    /// Changes the tag of the call buffer by a rule, where this tag was found.
-    pub(crate) fn change_buffer(&mut self, found: u8, rule: BufferRule)
-        requires { found < 16 }
-        ensures { tags_in self.new ≡ record (tags_in self.old) { buffer = buffer_after (tags_in self.old).buffer found rule } }
+    /// Clears the tag of the call buffer.
+    pub(crate) fn clear_buffer(&mut self)
+        ensures { tags_in self.new ≡ record (tags_in self.old) { buffer = 0 } }
     {
-        match rule {
-            BufferRule::KeepBuffer => {}
-            BufferRule::ClearBuffer => self.buffer = 0,
-            BufferRule::JoinFound => self.join_buffer(found),
-        }
+        self.buffer = 0;
     }
 
+    /// Joins this tag to that of the call buffer.
     #[tactic(auto, using(tag_policy::proofs::Words::joined_is_or, tag_policy::proofs::Words::or_below))]
-    fn join_buffer(&mut self, found: u8)
+    pub(crate) fn join_buffer(&mut self, found: u8)
         requires { found < 16 }
         ensures { tags_in self.new ≡ record (tags_in self.old) { buffer = joined (tags_in self.old).buffer found } }
     {

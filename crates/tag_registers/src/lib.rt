@@ -3,12 +3,10 @@
 
 mod ask;
 mod consuming;
-mod effects;
 mod file;
 pub mod laws;
 mod looks;
 mod reply;
-mod rows;
 mod touches;
 mod units;
 

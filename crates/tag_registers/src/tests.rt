@@ -61,7 +61,7 @@ fn tainted() -> TagFile {
     file.set(6, 15);
     file.set(8, 15);
     file.set(11, 15);
-    file.change_buffer(3, crate::rows::BufferRule::JoinFound);
+    file.join_buffer(3);
     file
 }
 
