@@ -15,6 +15,7 @@ use tag_policy::Policy;
 
 impl TagFile {
     /// Takes the next record of the core. A touch changes nothing until the tag word that it finds is given.
+    #[inline(always)]
     pub fn consume(&mut self, policy: &Policy, item: &Record) -> TagAsk
         requires { IsSoundRecord 4294967295 4294967295 item.now }
         ensures ask { result ≡ tag_ask (policy_in policy.now) (tags_in self.old) item.now }
@@ -24,6 +25,7 @@ impl TagFile {
         self.take_record(policy, item)
     }
 
+    #[inline(always)]
     #[tactic(auto, unfolding(crate::specs::Tags::tags_after, crate::specs::Tags::word_op))]
     fn take_record(&mut self, policy: &Policy, item: &Record) -> TagAsk
         requires { IsSoundRecord 4294967295 4294967295 item.now }

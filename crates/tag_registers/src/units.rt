@@ -18,6 +18,7 @@ use tag_policy::{Check, Policy};
 
 impl TagFile {
     /// An instruction whose access, if it made one, found this tag.
+    #[inline(always)]
     #[tactic(auto, using(crate::proofs::Keeping::kept_none, crate::proofs::Keeping::looked_twice))]
     pub(crate) fn run(&mut self, policy: &Policy, unit: Unit, insn: &Insn, found: u8)
         requires insn { Fits insn.now }
