@@ -15,11 +15,11 @@ use std::alloc::Global;
 pub(crate) fn widened(alloc: Global, payloads: &[u32]) -> Result<Vec<u64>, NoMemory>
     ensures { IfOk result (λ words. words.items ≡ payloads.now) }
 {
-    let mut words = Vec::new(alloc);
-    for payload in payloads {
-        words.push(*payload as u64).map_err(|_| NoMemory)?;
-    }
-    Ok(words)
+    payloads
+        .iter()
+        .map(|payload| u64::from(*payload))
+        .collect(alloc)
+        .map_err(|_| NoMemory)
 }
 
 /// Splits the seat of all callers into one pass for each.
