@@ -1,6 +1,6 @@
 //! What the unit of a record does to the tags of its core.
 
-ghost use Rattle.std.specs.Prelude.{◌≡◌, ◌<◌, Bool, ℕ, [], ◌∷◌, ◌&&◌, ◌==◌};
+ghost use Rattle.std.specs.Prelude.{◌≡◌, ◌<◌, Bool, ℕ, ◌&&◌, ◌==◌};
 ghost use Rattle.rv_decode.specs.Ranges.{Fits, IsRegister};
 ghost use Rattle.rv_decode.specs.Classes.{class_of_imm};
 ghost use Rattle.record_lane.specs.Sound.{IsSoundWhy};
