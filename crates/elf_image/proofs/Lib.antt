@@ -1,11 +1,11 @@
 pub mod Counting
+pub mod DirectoryLemmas
 pub mod FaultLemmas
 pub mod FirstWords
 pub mod HeaderLemmas
 pub mod LoadLemmas
 pub mod MemoryLemmas
 pub mod NextLemmas
-pub mod PlaceLemmas
 pub mod SegmentLemmas
 pub mod StackPages
 pub mod TableLemmas

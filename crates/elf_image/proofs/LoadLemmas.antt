@@ -9,14 +9,15 @@ use Rattle.std.proofs.lemmas.List.Sums.{length-filter, count_by-le-length}
 use Rattle.elf_image.specs.Elf.{entry_address, header_at, program_headers, segment_of, segments, table_entries, table_offset, takes_memory}
 use Rattle.elf_image.specs.ImageFault.{first_fault, file_tests, header_tests, map_tests, image_fault, has_bad_entry, is_too_large, passes_limit, address_limit}
 use Rattle.elf_image.specs.Layout.{layout_of, all_pages, count_below, nth_from, address_of, break_page, end_of_heap, entry_of, executes, is_executable_page, is_mapped, is_writable_page, loaded_word, maps, word_at}
-use Rattle.elf_image.specs.Memory.{IsMemoryOf, IsReadFrom, permissions_of_layout}
-use Rattle.elf_image.specs.PageTable.{IsContents, IsTableBelow, IsTableOf}
+use Rattle.elf_image.specs.Memory.{IsMemoryOf, IsReadFrom, page_of_layout, permissions_of_layout}
+use Rattle.elf_image.specs.PageTable.{IsContents, IsListed, IsListedBelow, permissions_of}
+use Rattle.elf_image.specs.Directory.{IsDirectoryBelow, page_entry}
 use Rattle.elf_image.proofs.Counting.{count_from_zero, nth_from_count}
 use Rattle.elf_image.proofs.FaultLemmas.{first_fault_some, first_fault_skip, header_table}
 use Rattle.elf_image.specs.declared.fault.ImageFault.{ImageFault}
 use Rattle.elf_image.specs.declared.fault.ImageFault.TheVariants.{TooLarge, Entry}
 use Rattle.elf_image.specs.declared.segments.Segment.{Segment}
-use Rattle.elf_image.specs.declared.page_table.Permissions.{Permissions}
+use Rattle.elf_image.specs.declared.page_directory.Page.{Page}
 
 -- a fault of the file by itself is that of the image
 pub image_file : (bytes : List ℕ) (cores stack heap : ℕ) (fault : ImageFault) → first_fault (file_tests bytes heap) ≡ Some fault → image_fault bytes cores stack heap ≡ Some fault
@@ -69,41 +70,42 @@ segments_few bytes none =
     let some = count_by-le-length takes_memory (program_headers bytes) in
     rw (length-map (filter takes_memory (program_headers bytes)) segment_of, length-filter takes_memory (program_headers bytes)) (omega (arith, all, some, few))
 
--- each mapped page of a table is a page
-pub mapped_low : (set : ℕ → Bool) (allowed : ℕ → Permissions) (mapped : List ℕ) (permissions : List Permissions) (xs : List ℕ) → IsTableBelow set allowed mapped permissions 1048576 → xs ≡ mapped → (k d : ℕ) → k < length xs → get_or xs k d < 1048576
-mapped_low set allowed mapped permissions xs table same k d low =
+-- each mapped page is a page
+pub mapped_low : (set : ℕ → Bool) (mapped : List ℕ) (xs : List ℕ) → IsListedBelow set mapped 1048576 → xs ≡ mapped → (k d : ℕ) → k < length xs → get_or xs k d < 1048576
+mapped_low set mapped xs table same k d low =
     let size : length xs ≡ length mapped = ap length same in
     let inside : k < length mapped = omega arith in
     let member = table.members k inside in
     rw (same, get_or_default mapped k d 0 inside) member.below
 
 -- the k-th mapped page is the one with k mapped pages below it
-mapped_place : (set : ℕ → Bool) (allowed : ℕ → Permissions) (mapped : List ℕ) (permissions : List Permissions) → IsTableBelow set allowed mapped permissions 1048576 → (k : ℕ) → k < length mapped → nth_from set 1048576 0 k ≡ get_or mapped k 0
-mapped_place set allowed mapped permissions table k low =
+mapped_place : (set : ℕ → Bool) (mapped : List ℕ) → IsListedBelow set mapped 1048576 → (k : ℕ) → k < length mapped → nth_from set 1048576 0 k ≡ get_or mapped k 0
+mapped_place set mapped table k low =
     let member = table.members k low in
     let below : get_or mapped k 0 < 1048576 = member.below in
     nth_from_count set 1048576 0 k (get_or mapped k 0) (omega arith) (omega arith) member.in_set (count_from_zero set k ∙ sym member.at_place)
 
--- the table and the words of the segments are those of the layout
-memory_at : (bytes : List ℕ) (cores stack heap : ℕ) (mapped : List ℕ) (permissions : List Permissions) (words : List ℕ) → IsTableOf (segments bytes) cores stack heap mapped permissions → length mapped ≤ 4096 → IsContents (loaded_word bytes (segments bytes)) mapped words (length mapped) → IsMemoryOf (layout_of bytes cores stack heap) mapped permissions words
-unfolding is_mapped is_writable_page is_executable_page permissions_of_layout word_at address_of
-memory_at bytes cores stack heap mapped permissions words table small contents = record {
+-- the directory and the words of the segments are those of the layout
+memory_at : (bytes : List ℕ) (cores stack heap : ℕ) (mapped leaves : List ℕ) (entries : List (Option Page)) (words : List ℕ) → IsListed (segments bytes) cores stack heap mapped → length mapped ≤ 4096 → IsDirectoryBelow (page_entry (maps (segments bytes) cores stack heap) (permissions_of (segments bytes) cores stack heap)) leaves entries all_pages → IsContents (loaded_word bytes (segments bytes)) mapped words (length mapped) → IsMemoryOf (layout_of bytes cores stack heap) leaves entries words
+unfolding is_mapped is_writable_page is_executable_page page_of_layout permissions_of_layout word_at address_of
+memory_at bytes cores stack heap mapped leaves entries words table small directory contents = record {
   few = subst (λ n. n ≤ 4096) table.counted small;
-  table = table;
+  directory = directory;
   words_size = contents.size ∙ ap (λ n. 1024 * n) table.counted;
   items = λ k d low.
       let size : length words ≡ 1024 * length mapped = contents.size in
       let inside : k / 1024 < length mapped = omega arith in
       get_or_default words k d 0 low
       ∙ contents.items k low
-      ∙ ap (λ n. loaded_word bytes (segments bytes) (4096 * n + 4 * (k % 1024))) (sym (mapped_place _ _ mapped permissions table (k / 1024) inside));
+      ∙ ap (λ n. loaded_word bytes (segments bytes) (4096 * n + 4 * (k % 1024))) (sym (mapped_place _ mapped table (k / 1024) inside));
 }
 
-pub memory_from : (bytes : List ℕ) (cores stack heap : ℕ) (loaded : List Segment) (mapped : List ℕ) (permissions : List Permissions) (words : List ℕ) → loaded ≡ segments bytes → IsTableOf loaded cores stack heap mapped permissions → length mapped ≤ 4096 → IsContents (loaded_word bytes loaded) mapped words (length mapped) → IsMemoryOf (layout_of bytes cores stack heap) mapped permissions words
-memory_from bytes cores stack heap loaded mapped permissions words same table small contents =
-    memory_at bytes cores stack heap mapped permissions words
-    (subst (λ (ls : List Segment). IsTableOf ls cores stack heap mapped permissions) same table)
+pub memory_from : (bytes : List ℕ) (cores stack heap : ℕ) (loaded : List Segment) (mapped leaves : List ℕ) (entries : List (Option Page)) (words : List ℕ) → loaded ≡ segments bytes → IsListed loaded cores stack heap mapped → length mapped ≤ 4096 → IsDirectoryBelow (page_entry (maps loaded cores stack heap) (permissions_of loaded cores stack heap)) leaves entries all_pages → IsContents (loaded_word bytes loaded) mapped words (length mapped) → IsMemoryOf (layout_of bytes cores stack heap) leaves entries words
+memory_from bytes cores stack heap loaded mapped leaves entries words same table small directory contents =
+    memory_at bytes cores stack heap mapped leaves entries words
+    (subst (λ (ls : List Segment). IsListed ls cores stack heap mapped) same table)
     small
+    (subst (λ (ls : List Segment). IsDirectoryBelow (page_entry (maps ls cores stack heap) (permissions_of ls cores stack heap)) leaves entries all_pages) same directory)
     (subst (λ (ls : List Segment). IsContents (loaded_word bytes ls) mapped words (length mapped)) same contents)
 
 -- what is read off the file once
@@ -127,9 +129,9 @@ entry_aligned entry executes accepted = by_test (nat_eq (entry % 4) 0) (grind (a
     by_test true holds e = holds refl
     by_test false holds e = absurd (cc)
 
--- a table that lists few mapped pages counts few
-pub table_few : (set : ℕ → Bool) (allowed : ℕ → Permissions) (mapped : List ℕ) (permissions : List Permissions) {size : ℕ} → IsTableBelow set allowed mapped permissions 1048576 → length mapped ≡ size → size ≤ 4096 → count_below set 1048576 ≤ 4096
-table_few set allowed mapped permissions table same small = rw (← table.counted, same) small
+-- few mapped pages that are listed are few
+pub table_few : (set : ℕ → Bool) (mapped : List ℕ) {size : ℕ} → IsListedBelow set mapped 1048576 → length mapped ≡ size → size ≤ 4096 → count_below set 1048576 ≤ 4096
+table_few set mapped table same small = rw (← table.counted, same) small
 
 -- the test of the entry, and what the words are, at equal lists
 pub at_segments : (entry : ℕ) (one other : List Segment) → one ≡ other → (if not (nat_eq (entry % 4) 0) || not (executes one (entry / 4096)) then Some Entry else None) ≡ (if not (nat_eq (entry % 4) 0) || not (executes other (entry / 4096)) then Some Entry else None)

@@ -1,5 +1,5 @@
--- Lemmas on the entries of the table of pages, and on the words of memory.
-use Rattle.std.proofs.Common.{◌≡◌, ℕ, zero, suc, ◌+◌, ◌-◌, ◌*◌, ◌/◌, ◌%◌, ◌<◌, ◌≤◌, List, [], ◌∷◌, length, get_or, slice_get, Some, None, Bool, true, false, ◌&&◌, if◌then◌else◌, refl, sym, ◌∙◌, ap, inl, inr, arith, ◌^◌}
+-- Lemmas on the entries of the directory of pages, and on the words of memory.
+use Rattle.std.proofs.Common.{◌≡◌, ℕ, zero, suc, ◌+◌, ◌-◌, ◌*◌, ◌/◌, ◌%◌, ◌<◌, ◌≤◌, List, [], ◌∷◌, length, get_or, slice_get, Option, Some, None, Bool, true, false, ◌&&◌, if◌then◌else◌, refl, sym, ◌∙◌, ap, inl, inr, arith, ◌^◌}
 use Rattle.std.specs.List.{list_any}
 use Rattle.std.proofs.lemmas.Bool.{cases_Bool, or_cases, or_left, or_right, and_parts, both_ways, eq-eqb, ne_eqb}
 use Rattle.elf_image.specs.Elf.{segments, may_write, may_execute}
@@ -7,8 +7,7 @@ use Rattle.elf_image.specs.Layout.{Layout, touches, is_data_page, is_mapped, is_
 use Rattle.elf_image.specs.Memory.{page_of_layout, permissions_of_layout, IsMemoryOf}
 use Rattle.elf_image.proofs.Counting.{count_below_le, count_below_lt, count_from_zero, nth_from_count}
 use Rattle.elf_image.specs.declared.segments.Segment.{Segment}
-use Rattle.elf_image.specs.declared.memory_image.Page.{Page}
-use Rattle.elf_image.specs.declared.page_table.Permissions.{Permissions}
+use Rattle.elf_image.specs.declared.page_directory.Page.{Page}
 
 -- a test that asks for less passes too
 any_less : (more less : Segment → Bool) (loaded : List Segment) → ((s : Segment) → (less s && more s) ≡ true → less s ≡ true) → list_any (λ s. less s && more s) loaded ≡ true → list_any less loaded ≡ true
@@ -74,11 +73,13 @@ at_no_entry layout page missing =
     }) missing
 
 -- the word of an address by the entry of its page
-pub word_of_entry : (layout : Layout) (address : ℕ) (entry : Page) → Some entry ≡ page_of_layout layout (address / 4096) → Some (3 + 1024 * entry.place + address % 4096 / 4) ≡ word_of layout address
+pub word_of_entry : (layout : Layout) (address : ℕ) (entry : Page) → Some entry ≡ page_of_layout layout (address / 4096) → Some (3 + (1024 * entry.place + address % 4096 / 4)) ≡ word_of layout address
 unfolding word_of
 word_of_entry layout address entry found =
     let says = at_entry layout (address / 4096) entry found in
-    rw (says.mapped, says.place) refl
+    let groups : 3 + (1024 * count_below (is_mapped layout) (address / 4096) + address % 4096 / 4) ≡ 3 + 1024 * count_below (is_mapped layout) (address / 4096) + address % 4096 / 4 =
+    omega arith in
+    rw (says.mapped, says.place) (ap Some groups)
 
 pub word_of_no_entry : (layout : Layout) (address : ℕ) → None ≡ page_of_layout layout (address / 4096) → None ≡ word_of layout address
 unfolding word_of
@@ -133,16 +134,16 @@ address_of_mapped layout page rest mapped low small =
     rw (whole, part, found) refl
 
 -- the word that memory holds at an address of a mapped page
-pub index_lt : (layout : Layout) (mapped : List ℕ) (permissions : List Permissions) (words : List ℕ) (address : ℕ) (entry : Page) → IsMemoryOf layout mapped permissions words → address < 2 ^ 32 → Some entry ≡ page_of_layout layout (address / 4096) → 1024 * entry.place + address % 4096 / 4 < length words
-index_lt layout mapped permissions words address entry memory low found =
+pub index_lt : (layout : Layout) (leaves : List ℕ) (entries : List (Option Page)) (words : List ℕ) (address : ℕ) (entry : Page) → IsMemoryOf layout leaves entries words → address < 2 ^ 32 → Some entry ≡ page_of_layout layout (address / 4096) → 1024 * entry.place + address % 4096 / 4 < length words
+index_lt layout leaves entries words address entry memory low found =
     let says = at_entry layout (address / 4096) entry found in
     let more = count_below_lt (is_mapped layout) (address / 4096) 1048576 says.mapped (omega arith) in
     rw (memory.words_size, says.place) (omega arith)
 
-pub item_at : (layout : Layout) (mapped : List ℕ) (permissions : List Permissions) (words : List ℕ) (address d : ℕ) (entry : Page) → IsMemoryOf layout mapped permissions words → address < 2 ^ 32 → address % 4 ≡ 0 → Some entry ≡ page_of_layout layout (address / 4096) → get_or words (1024 * entry.place + address % 4096 / 4) d ≡ word_at layout address
-item_at layout mapped permissions words address d entry memory low even found =
+pub item_at : (layout : Layout) (leaves : List ℕ) (entries : List (Option Page)) (words : List ℕ) (address d : ℕ) (entry : Page) → IsMemoryOf layout leaves entries words → address < 2 ^ 32 → address % 4 ≡ 0 → Some entry ≡ page_of_layout layout (address / 4096) → get_or words (1024 * entry.place + address % 4096 / 4) d ≡ word_at layout address
+item_at layout leaves entries words address d entry memory low even found =
     let says = at_entry layout (address / 4096) entry found in
-    let inside = index_lt layout mapped permissions words address entry memory low found in
+    let inside = index_lt layout leaves entries words address entry memory low found in
     let there : address_of layout (1024 * entry.place + address % 4096 / 4) ≡ 4096 * (address / 4096) + 4 * (address % 4096 / 4) =
     rw says.place (address_of_mapped layout (address / 4096) (address % 4096 / 4) says.mapped (omega arith) (omega arith)) in
     let back : 4096 * (address / 4096) + 4 * (address % 4096 / 4) ≡ address = omega arith in

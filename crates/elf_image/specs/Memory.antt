@@ -1,13 +1,13 @@
--- What a loaded image keeps of its layout: the table of pages, the first words, and what is read off the file once. Their meaning is in Layout.
-use Rattle.std.specs.Prelude.{◌≡◌, ℕ, ◌%◌, ◌*◌, ◌<◌, ◌≤◌, List, length, slice_index_or, Option, Some, None, false, if◌then◌else◌}
+-- What a loaded image keeps of its layout: the directory of pages, the first words, and what is read off the file once. Their meaning is in Layout.
+use Rattle.std.specs.Prelude.{◌≡◌, ℕ, ◌%◌, ◌*◌, ◌<◌, ◌≤◌, List, length, slice_index_or, Option, false}
 use Rattle.std.specs.List.{list_any}
 use Rattle.elf_image.specs.Elf.{segments}
 use Rattle.elf_image.specs.Layout.{Layout, is_mapped, is_writable_page, is_executable_page, count_below, all_pages, word_at, address_of, break_base, heap_end, entry_of}
 use Rattle.elf_image.specs.ImageFault.{address_limit, passes_limit}
 use Rattle.elf_image.specs.declared.limits.TheConstants.{MOST_PAGES, PAGE_WORDS}
 use Rattle.elf_image.specs.declared.segments.Segment.{Segment}
-use Rattle.elf_image.specs.PageTable.{IsTableBelow}
-use Rattle.elf_image.specs.declared.memory_image.Page.{Page}
+use Rattle.elf_image.specs.Directory.{IsDirectoryBelow, page_entry}
+use Rattle.elf_image.specs.declared.page_directory.Page.{Page}
 use Rattle.elf_image.specs.declared.page_table.Permissions.{Permissions}
 
 -- what may be done on a page of a layout
@@ -17,20 +17,14 @@ permissions_of_layout layout page = record {
   executable = is_executable_page layout page;
 }
 
--- what the table of pages says of a page: how many mapped pages lie below it, and what may be done there
+-- what the directory of pages says of a page: how many mapped pages lie below it, and what may be done there
 unfoldable pub page_of_layout : Layout → ℕ → Option Page
-page_of_layout layout page =
-    if is_mapped layout page
-    then Some (record {
-      place = count_below (is_mapped layout) page;
-      permissions = permissions_of_layout layout page;
-    })
-    else None
+page_of_layout layout = page_entry (is_mapped layout) (permissions_of_layout layout)
 
--- the table of pages and the first words of a layout whose mapped pages are not too many
-pub record IsMemoryOf (layout : Layout) (mapped : List ℕ) (permissions : List Permissions) (words : List ℕ) : Type 0 where
+-- the directory of pages and the first words of a layout whose mapped pages are not too many
+pub record IsMemoryOf (layout : Layout) (leaves : List ℕ) (entries : List (Option Page)) (words : List ℕ) : Type 0 where
   pub few : count_below (is_mapped layout) all_pages ≤ MOST_PAGES
-  pub table : IsTableBelow (is_mapped layout) (permissions_of_layout layout) mapped permissions all_pages
+  pub directory : IsDirectoryBelow (page_of_layout layout) leaves entries all_pages
   pub words_size : length words ≡ PAGE_WORDS * count_below (is_mapped layout) all_pages
   pub items : (k d : ℕ) → k < length words → slice_index_or words k d ≡ word_at layout (address_of layout k)
 

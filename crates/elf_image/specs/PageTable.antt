@@ -1,5 +1,5 @@
--- What the loader's table of pages holds: the mapped pages in ascending order, and what may be done on each. Their meaning is in Layout.
-use Rattle.std.specs.Prelude.{◌≡◌, ℕ, ◌<◌, ◌≤◌, false, List, length, slice_index, slice_index_or, ◌+◌, ◌*◌, ◌/◌, ◌%◌, Bool, true, ◌&&◌}
+-- What the loader keeps of pages while it loads: the mapped pages in ascending order, what may be done on each, and their words. Their meaning is in Layout.
+use Rattle.std.specs.Prelude.{◌≡◌, ℕ, ◌<◌, ◌≤◌, false, List, length, slice_index, ◌+◌, ◌*◌, ◌/◌, ◌%◌, Bool, true, ◌&&◌}
 use Rattle.elf_image.specs.Elf.{may_write}
 use Rattle.elf_image.specs.Layout.{touches, maps, writes, executes, count_below, all_pages}
 use Rattle.elf_image.specs.declared.limits.TheConstants.{PAGE_BYTES, PAGE_WORDS}
@@ -30,17 +30,14 @@ pub record IsMember (set : ℕ → Bool) (bound page place : ℕ) : Type 0 where
   pub in_set : set page ≡ true
   pub at_place : count_below set page ≡ place
 
--- the pages of a set below a bound are listed, with what may be done on each
-pub record IsTableBelow (set : ℕ → Bool) (allowed : ℕ → Permissions) (mapped : List ℕ) (permissions : List Permissions) (bound : ℕ) : Type 0 where
+-- the pages of a set below a bound are listed in ascending order
+pub record IsListedBelow (set : ℕ → Bool) (mapped : List ℕ) (bound : ℕ) : Type 0 where
   pub counted : length mapped ≡ count_below set bound
   pub members : (k : ℕ) → k < length mapped → IsMember set bound (slice_index mapped k) k
-  pub size : length permissions ≡ length mapped
-  pub allows : (k : ℕ) (d : Permissions) → k < length mapped → slice_index_or permissions k d ≡ allowed (slice_index mapped k)
 
 -- all mapped pages are listed
-abbrev pub IsTableOf : List Segment → ℕ → ℕ → ℕ → List ℕ → List Permissions → Type 0
-IsTableOf loaded cores stack heap mapped permissions =
-    IsTableBelow (maps loaded cores stack heap) (permissions_of loaded cores stack heap) mapped permissions all_pages
+abbrev pub IsListed : List Segment → ℕ → ℕ → ℕ → List ℕ → Type 0
+IsListed loaded cores stack heap mapped = IsListedBelow (maps loaded cores stack heap) mapped all_pages
 
 -- a list has so many new items at its end, as `item` gives them
 pub record IsExtended (old new : List ℕ) (item : ℕ → ℕ) (count : ℕ) : Type 0 where

@@ -9,6 +9,7 @@ mod headers;
 pub mod limits;
 mod loading;
 mod memory_image;
+mod page_directory;
 mod page_table;
 mod segments;
 mod validation;

@@ -9,6 +9,12 @@ pub const PAGE_WORDS: u32 = 1024;
 /// The pages of the whole address space.
 pub const ALL_PAGES: u32 = 1 << 20;
 
+/// The pages of a leaf of the directory of pages, which has an entry for each page.
+pub const LEAF_PAGES: u32 = 1024;
+
+/// The leaves of all pages.
+pub const LEAVES: u32 = 1024;
+
 /// The pages that are mapped at most.
 pub const MOST_PAGES: usize = 4096;
 

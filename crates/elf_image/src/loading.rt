@@ -5,12 +5,14 @@ ghost use Rattle.std.specs.Result.{result_err};
 ghost use Rattle.elf_image.specs.Elf.{segments};
 ghost use Rattle.elf_image.specs.Layout.{all_pages, count_below, end_of_heap, executes, maps};
 ghost use Rattle.elf_image.specs.ImageFault.{address_limit, file_tests, first_fault, passes_limit};
-ghost use Rattle.elf_image.specs.PageTable.{IsTableOf};
+ghost use Rattle.elf_image.specs.PageTable.{IsListed, permissions_of};
+ghost use Rattle.elf_image.specs.Directory.{IsDirectoryBelow, page_entry};
 
 use crate::fault::ImageFault;
 use crate::headers::read_headers;
 use crate::limits::{MOST_CORES, MOST_PAGES, MOST_STACK, PAGE_BYTES};
-use crate::page_table::{DataPages, PageTable, any_executable, page_table};
+use crate::page_directory::{PageDirectory, page_directory};
+use crate::page_table::{DataPages, any_executable, mapped_pages};
 use crate::segments::{Segment, break_page, loaded_segments};
 use crate::validation::{check_header, check_identification, check_segments};
 use std::alloc::Global;
@@ -33,6 +35,13 @@ pub fn accepted_segments(alloc: Global, bytes: &[u8], heap: u32) -> Result<Vec<S
     Ok(segments)
 }
 
+/// The mapped pages in ascending order, and the directory of all pages.
+#[derive(Drop)]
+pub struct PageTable {
+    pub mapped: Vec<u32>,
+    pub directory: PageDirectory,
+}
+
 /// The table of the mapped pages, unless they are too many.
 pub fn map_memory(
     alloc: Global,
@@ -44,7 +53,8 @@ pub fn map_memory(
     requires cores { cores ≤ MOST_CORES }
     requires stack { stack ≤ MOST_STACK }
     requires heap_end { end_of_heap segments.now heap ≤ address_limit }
-    ensures table { IfOk result (λ table. IsTableOf segments.now cores stack heap table.mapped.items table.permissions.items) }
+    ensures listed { IfOk result (λ table. IsListed segments.now cores stack heap table.mapped.items) }
+    ensures directory { IfOk result (λ table. IsDirectoryBelow (page_entry (maps segments.now cores stack heap) (permissions_of segments.now cores stack heap)) table.directory.leaves.items table.directory.entries.items all_pages) }
     ensures few { IfOk result (λ table. vec_len table.mapped ≤ MOST_PAGES) }
     ensures refused { IfErr result (λ fault. fault ≢ ImageFault.NoMemory → (fault ≡ ImageFault.TooLarge) × (MOST_PAGES < count_below (maps segments.now cores stack heap) all_pages)) }
 {
@@ -54,7 +64,9 @@ pub fn map_memory(
         cores,
         stack,
     };
-    page_table(alloc, segments, regions)
+    let mapped = mapped_pages(alloc, segments, regions)?;
+    let directory = page_directory(alloc, segments, regions)?;
+    Ok(PageTable { mapped, directory })
 }
 
 /// Refuses an entry that is not a multiple of 4 or not on an executable page.

@@ -10,19 +10,12 @@ use crate::device::{BREAK_WORD, DEVICE_WORDS};
 use crate::fault::ImageFault;
 use crate::headers::entry_address;
 use crate::limits::{MOST_CORES, MOST_HEAP, MOST_STACK, PAGE_BYTES, PAGE_WORDS};
-use crate::loading::{accepted_segments, check_entry, map_memory};
-use crate::page_table::{PageTable, Permissions, place_among};
+use crate::loading::{PageTable, accepted_segments, check_entry, map_memory};
+use crate::page_directory::{Page, PageDirectory};
 use crate::segments::{Segment, break_page, segment_at};
 use boxcar::tag::{Names, Tag};
 use std::alloc::{AllocError, Global};
 use std::marker::Model;
-
-/// A mapped page: how many mapped pages lie below it, and what may be done there.
-#[derive(Clone, Copy)]
-struct Page {
-    place: u32,
-    permissions: Permissions,
-}
 
 /// The bytes of a file as the numbers of a tag, which has no bytes and which clauses alone see.
 struct FileBytes;
@@ -40,8 +33,7 @@ pub struct Image {
     stack: u32,
     heap: u32,
     segments: Vec<Segment>,
-    mapped: Vec<u32>,
-    permissions: Vec<Permissions>,
+    directory: PageDirectory,
     words: Vec<u32>,
     break_base: u32,
     entry: u32,
@@ -57,7 +49,7 @@ impl Model for Image {
 
     ghost view = { λ image. layout_of image.file.numbers image.cores image.stack image.heap };
 
-    ghost invariant = { λ image. IsMemoryOf (layout_of image.file.numbers image.cores image.stack image.heap) image.mapped.items image.permissions.items image.words.items × IsReadFrom (layout_of image.file.numbers image.cores image.stack image.heap) image.segments.items image.break_base image.entry × IsAccepted (layout_of image.file.numbers image.cores image.stack image.heap) };
+    ghost invariant = { λ image. IsMemoryOf (layout_of image.file.numbers image.cores image.stack image.heap) image.directory.leaves.items image.directory.entries.items image.words.items × IsReadFrom (layout_of image.file.numbers image.cores image.stack image.heap) image.segments.items image.break_base image.entry × IsAccepted (layout_of image.file.numbers image.cores image.stack image.heap) };
 }
 
 /// The image of a file for a count of cores, of the pages of each core's stack and of those of the
@@ -85,18 +77,14 @@ pub fn load(
     let words = first_words(alloc, bytes, &segments, &table.mapped)?;
     let file = Tag::of::<&[u8], FileBytes>(&bytes);
     let break_base = PAGE_BYTES * break_page(&segments) as u32;
-    let PageTable {
-        mapped,
-        permissions,
-    } = table;
+    let PageTable { directory, .. } = table;
     Ok(Image {
         file,
         cores,
         stack,
         heap,
         segments,
-        mapped,
-        permissions,
+        directory,
         words,
         break_base,
         entry,
@@ -164,23 +152,11 @@ impl Image {
         Some((segment.start, segment.end as u32, segment.flags))
     }
 
-    /// What the table of pages says of the page of an address; `None` where it is not mapped.
+    /// What the directory of pages says of the page of an address; `None` where it is not mapped.
     fn page(&self, address: u32) -> Option<Page>
         ensures { result ≡ page_of_layout self.now (address / PAGE_BYTES) }
     {
-        let number = address / PAGE_BYTES;
-        let place = place_among(&self.mapped, number);
-        if place == self.mapped.len() {
-            None
-        } else if self.mapped[place] == number {
-            let permissions = self.permissions[place];
-            Some(Page {
-                place: place as u32,
-                permissions,
-            })
-        } else {
-            None
-        }
+        self.directory.entry(address / PAGE_BYTES)
     }
 
     /// The number of the word that holds an address; `None` where the page is not mapped.
@@ -188,7 +164,7 @@ impl Image {
         ensures { result ≡ word_of self.now address }
     {
         let page = self.page(address)?;
-        Some(DEVICE_WORDS + PAGE_WORDS * page.place + address % PAGE_BYTES / 4)
+        Some(DEVICE_WORDS + page.index_of(address))
     }
 
     /// Whether the page of an address may be written.
@@ -212,8 +188,7 @@ impl Image {
         if !page.permissions.executable {
             return None;
         }
-        let index = PAGE_WORDS * page.place + pc % PAGE_BYTES / 4;
-        Some(self.words[index as usize])
+        Some(self.words[page.index_of(pc) as usize])
     }
 
     /// How many words there are: the three devices, and those of all mapped pages.

@@ -1,9 +1,9 @@
-//! The table of pages: which pages are mapped, their places among the mapped ones, and permissions.
-ghost use Rattle.std.specs.Prelude.{◌≡◌, ◌≢◌, ◌≤◌, ◌||◌, ◌&&◌, ◌+◌, ◌<◌, ◌-◌, length, slice_index, IfOk, IfErr, vec_len};
+//! Which pages are mapped, and what may be done on each.
+ghost use Rattle.std.specs.Prelude.{◌≡◌, ◌≢◌, ◌≤◌, ◌||◌, ◌&&◌, ◌+◌, ◌<◌, IfOk, IfErr, vec_len};
 ghost use Rattle.std.specs.List.{list_any};
 ghost use Rattle.elf_image.specs.Elf.{may_write};
 ghost use Rattle.elf_image.specs.Layout.{all_pages, break_page, count_below, executes, is_heap_page, is_stack_page, is_stack_page_of, maps, touches};
-ghost use Rattle.elf_image.specs.PageTable.{IsNextOf, IsTableOf, may_write_page, permissions_of};
+ghost use Rattle.elf_image.specs.PageTable.{IsListed, IsNextOf, may_write_page, permissions_of};
 
 use crate::fault::ImageFault;
 use crate::limits::{ALL_PAGES, MOST_CORES, MOST_PAGES, MOST_STACK};
@@ -96,7 +96,7 @@ fn next_touched(segments: &[Segment], from: u32) -> u32
 }
 
 /// The first page from a page on that is mapped, or that of the end of memory.
-fn next_mapped(segments: &[Segment], regions: DataPages, from: u32) -> u32
+pub fn next_mapped(segments: &[Segment], regions: DataPages, from: u32) -> u32
     requires from { from ≤ ALL_PAGES }
     requires cores { regions.cores ≤ MOST_CORES }
     requires stack { regions.stack ≤ MOST_STACK }
@@ -141,7 +141,7 @@ pub fn any_executable(segments: &[Segment], page: u32) -> bool
 }
 
 /// What may be done on a page.
-fn permissions_on(segments: &[Segment], regions: DataPages, page: u32) -> Permissions
+pub fn permissions_on(segments: &[Segment], regions: DataPages, page: u32) -> Permissions
     requires cores { regions.cores ≤ MOST_CORES }
     requires stack { regions.stack ≤ MOST_STACK }
     requires first { regions.first ≡ break_page segments.now }
@@ -155,58 +155,27 @@ fn permissions_on(segments: &[Segment], regions: DataPages, page: u32) -> Permis
     }
 }
 
-/// The mapped pages in ascending order, and what may be done on each.
-#[derive(Drop)]
-pub struct PageTable {
-    pub mapped: Vec<u32>,
-    pub permissions: Vec<Permissions>,
-}
-
-/// The table of all mapped pages, which are to be at most `MOST_PAGES`.
-pub fn page_table(
+/// The mapped pages in ascending order, which are to be at most `MOST_PAGES`.
+pub fn mapped_pages(
     alloc: Global,
     segments: &[Segment],
     regions: DataPages,
-) -> Result<PageTable, ImageFault>
+) -> Result<Vec<u32>, ImageFault>
     requires cores { regions.cores ≤ MOST_CORES }
     requires stack { regions.stack ≤ MOST_STACK }
     requires first { regions.first ≡ break_page segments.now }
-    ensures table { IfOk result (λ table. IsTableOf segments.now regions.cores regions.stack regions.heap table.mapped.items table.permissions.items) }
-    ensures few { IfOk result (λ table. vec_len table.mapped ≤ MOST_PAGES) }
+    ensures listed { IfOk result (λ mapped. IsListed segments.now regions.cores regions.stack regions.heap mapped.items) }
+    ensures few { IfOk result (λ mapped. vec_len mapped ≤ MOST_PAGES) }
     ensures refused { IfErr result (λ fault. fault ≢ ImageFault.NoMemory → (fault ≡ ImageFault.TooLarge) × (MOST_PAGES < count_below (maps segments.now regions.cores regions.stack regions.heap) all_pages)) }
 {
     let mut mapped = Vec::new(alloc);
-    let mut allowed = Vec::new(alloc);
     let mut page = next_mapped(segments, regions, 0);
     while page < ALL_PAGES {
         if mapped.len() >= MOST_PAGES {
             return Err(ImageFault::TooLarge);
         }
         mapped.push(page)?;
-        allowed.push(permissions_on(segments, regions, page))?;
         page = next_mapped(segments, regions, page + 1);
     }
-    Ok(PageTable {
-        mapped,
-        permissions: allowed,
-    })
-}
-
-/// The place of a page among ascending ones: how many of them are below it.
-pub fn place_among(pages: &[u32], page: u32) -> usize
-    ensures bound { result ≤ length pages.now }
-    ensures below { 0 < result → slice_index pages.now (result - 1) < page }
-    ensures above { result < length pages.now → page ≤ slice_index pages.now result }
-{
-    let mut low = 0;
-    let mut high = pages.len();
-    while low < high {
-        let middle = low + (high - low) / 2;
-        if pages[middle] < page {
-            low = middle + 1;
-        } else {
-            high = middle;
-        }
-    }
-    low
+    Ok(mapped)
 }

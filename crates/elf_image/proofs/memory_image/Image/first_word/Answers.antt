@@ -8,7 +8,7 @@ use Rattle.elf_image.proofs.memory_image.Image.first_word.Goals as goal
 pub index-requires : goal.index-requires
 index-requires c =
     let memory =
-    subst (λ (layout : Layout). IsMemoryOf layout c.self.inside.mapped.items c.self.inside.permissions.items c.self.inside.words.items) c.self.view_is c.self.invariant.0 in
+    subst (λ (layout : Layout). IsMemoryOf layout c.self.inside.directory.leaves.items c.self.inside.directory.entries.items c.self.inside.words.items) c.self.view_is c.self.invariant.0 in
     let guest : 3 ≤ c.args.word = omega arith in
     guest_index c.args.self.now c.self.inside.words.items c.args.word c.self.inside.words.len guest c.requires c.self.inside.words.ok.0 memory.words_size
 
@@ -25,7 +25,7 @@ returns-then-word-eq-BREAK_WORD c =
 pub returns-else-word-eq-BREAK_WORD : goal.returns-else-word-eq-BREAK_WORD
 returns-else-word-eq-BREAK_WORD c =
     let memory =
-    subst (λ (layout : Layout). IsMemoryOf layout c.self.inside.mapped.items c.self.inside.permissions.items c.self.inside.words.items) c.self.view_is c.self.invariant.0 in
+    subst (λ (layout : Layout). IsMemoryOf layout c.self.inside.directory.leaves.items c.self.inside.directory.entries.items c.self.inside.words.items) c.self.view_is c.self.invariant.0 in
     let guest : 3 ≤ c.args.word = omega arith in
     let inside =
     guest_index c.args.self.now c.self.inside.words.items c.args.word (length c.self.inside.words.items) guest c.requires refl memory.words_size in
