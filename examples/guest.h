@@ -2,10 +2,10 @@
 #ifndef GUEST_H
 #define GUEST_H
 
-enum { CALL_READ = 63, CALL_WRITE = 64 };
+enum { CALL_READ = 63, CALL_WRITE = 64, CALL_EXIT = 93 };
 enum { INPUT = 0, OUTPUT = 1 };
 
-/* The body of one core; what it returns is the core's exit code. */
+/* The body of one core of the guests with start_guest.S; what it returns is the core's exit code. */
 int guest(unsigned core, unsigned cores);
 
 static inline int call(int number, int descriptor, const void *bytes, int count)

@@ -11,7 +11,7 @@ SECTIONS
   . = 0x10000 + SIZEOF_HEADERS;
   .text : { *(.text .text.*) *(.rodata .rodata.* .srodata .srodata.*) } :text
   . = ALIGN(0x1000) + (. & 0xfff);
-  .data : { *(.data .data.* .sdata .sdata.*) } :data
+  .data : { *(.data .data.*) PROVIDE(__global_pointer$ = . + 0x800); *(.sdata .sdata.*) } :data
   .bss : { *(.bss .bss.* .sbss .sbss.* COMMON) } :data
   /DISCARD/ : { *(.comment .riscv.attributes .eh_frame .note.*) }
 }

@@ -1,4 +1,4 @@
-# Where each core begins: a0 is its number, a1 the count of cores, sp a place near the top of its own stack.
+# Where each core of the guests begins whose body is `guest` (new guests have start.S): a0 is its number, a1 the count of cores, sp a place near the top of its own stack.
     .globl _start
 _start:
     bnez a1, 1f
